@@ -1,0 +1,24 @@
+use borrow.Author.Tests.{eq-eqb, ne-eqb}
+use Rattle.port.specs.Buffering.{filledOf}
+use Rattle.port.proofs.Buffer.filled.Statement.{statement}
+use Rattle.port.proofs.Buffer.filled.Tie as tie
+use Rattle.port.proofs.Buffer.filled.Reads as reads
+use Rattle.port.proofs.Buffer.filled.Lts as lts
+
+-- src/buffering.rt:51:13
+returns : tie.Need-returns
+unfolding filledOf
+returns c = simp (eq-eqb _ _ (c .if1 .taken))
+
+-- src/buffering.rt:56:13
+returns-2 : tie.Need-returns-2
+unfolding filledOf
+returns-2 c = simp (ne-eqb _ _ (c .before .before .if1 .left), eq-eqb _ _ (c .if2 .taken))
+
+-- src/buffering.rt:45:5
+returns-3 : tie.Need-returns-3
+unfolding filledOf
+returns-3 c = simp (ne-eqb _ _ (c .before .before .if1 .left), ne-eqb _ _ (c .if2 .left))
+
+pub filled-spec : {M : Type 1} → statement M
+filled-spec = tie.close (tie.spec returns returns-2 returns-3)

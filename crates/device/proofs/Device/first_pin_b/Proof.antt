@@ -1,0 +1,65 @@
+use mathlib.Core.Path.{sym}
+use Rattle.device.specs.Pins.{firstPinB}
+use borrow.Author.Needs.{needs}
+use Rattle.device.proofs.Device.first_pin_b.Statement.{statement}
+use Rattle.device.proofs.Device.first_pin_b.Tie as tie
+use Rattle.device.proofs.Device.first_pin_b.Reads as reads
+use Rattle.device.proofs.Device.first_pin_b.Lts as lts
+use Rattle.bits.proofs.bit.Reads as bit-reads
+use Rattle.device.proofs.Device.pins_b.Reads as pins-b-reads
+use Rattle.device.proofs.Device.quietly.Reads as quietly-reads
+use Rattle.device.proofs.Device.rules_b.Reads as rules-b-reads
+use Rattle.device.proofs.pins.asserts.Reads as asserts-reads
+use Rattle.port.proofs.Port.first_edge.Reads as first-edge-reads
+
+-- src/pins.rt:222:44
+bit-requires : tie.Need-bit-requires
+bit-requires c κs = search needs
+
+-- src/pins.rt:222:12
+asserts-requires : tie.Need-asserts-requires
+asserts-requires c κs = search needs
+
+-- src/pins.rt:223:39
+rules-b-requires : tie.Need-rules-b-requires
+rules-b-requires c κs = search needs
+
+-- src/pins.rt:223:55
+pins-b-requires : tie.Need-pins-b-requires
+pins-b-requires c κs = search needs
+
+-- src/pins.rt:223:17
+first-edge-requires : tie.Need-first-edge-requires
+first-edge-requires c κs = search needs
+
+-- src/pins.rt:226:13
+quietly-requires : tie.Need-quietly-requires
+quietly-requires c κs = search needs
+
+-- src/pins.rt:226:13
+returns : tie.Need-returns
+unfolding firstPinB
+returns c = simp (sym (c .before .before .before .before .before .before .before .bit .ensures), sym (c .before .before .before .before .before .before .asserts .ensures), c .before .before .before .before .before .if1 .taken, sym (c .before .before .before .before .rules-b .ensures), sym (c .before .before .before .pins-b .ensures), sym (c .before .before .first-edge .ensures), sym (c .quietly .ensures))
+
+-- src/pins.rt:229:9
+quietly-requires-2 : tie.Need-quietly-requires-2
+quietly-requires-2 c κs = search needs
+
+-- src/pins.rt:219:5
+returns-2 : tie.Need-returns-2
+unfolding firstPinB
+returns-2 c = simp (sym (c .before .before .before .before .bit .ensures), sym (c .before .before .before .asserts .ensures), c .before .before .if1 .left, sym (c .quietly2 .ensures))
+
+pub first-pin-b-spec : {M : Type 1} → statement M
+first-pin-b-spec =
+    tie.close
+    (tie.spec
+    bit-requires
+    asserts-requires
+    rules-b-requires
+    pins-b-requires
+    first-edge-requires
+    quietly-requires
+    returns
+    quietly-requires-2
+    returns-2)

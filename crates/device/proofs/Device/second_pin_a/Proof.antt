@@ -1,0 +1,59 @@
+use mathlib.Core.Path.{sym}
+use Rattle.device.specs.Pins.{secondPinA}
+use borrow.Author.Needs.{needs}
+use Rattle.device.proofs.Device.second_pin_a.Statement.{statement}
+use Rattle.device.proofs.Device.second_pin_a.Tie as tie
+use Rattle.device.proofs.Device.second_pin_a.Reads as reads
+use Rattle.device.proofs.Device.second_pin_a.Lts as lts
+use Rattle.bits.proofs.bit.Reads as bit-reads
+use Rattle.device.proofs.Device.quietly.Reads as quietly-reads
+use Rattle.device.proofs.Device.rules_a.Reads as rules-a-reads
+use Rattle.device.proofs.pins.asserts.Reads as asserts-reads
+use Rattle.port.proofs.Port.second_edge.Reads as second-edge-reads
+
+-- src/pins.rt:208:44
+bit-requires : tie.Need-bit-requires
+bit-requires c κs = search needs
+
+-- src/pins.rt:208:12
+asserts-requires : tie.Need-asserts-requires
+asserts-requires c κs = search needs
+
+-- src/pins.rt:209:40
+rules-a-requires : tie.Need-rules-a-requires
+rules-a-requires c κs = search needs
+
+-- src/pins.rt:209:17
+second-edge-requires : tie.Need-second-edge-requires
+second-edge-requires c κs = search needs
+
+-- src/pins.rt:212:13
+quietly-requires : tie.Need-quietly-requires
+quietly-requires c κs = search needs
+
+-- src/pins.rt:212:13
+returns : tie.Need-returns
+unfolding secondPinA
+returns c = simp (sym (c .before .before .before .before .before .before .bit .ensures), sym (c .before .before .before .before .before .asserts .ensures), c .before .before .before .before .if1 .taken, sym (c .before .before .before .rules-a .ensures), sym (c .before .before .second-edge .ensures), sym (c .quietly .ensures))
+
+-- src/pins.rt:215:9
+quietly-requires-2 : tie.Need-quietly-requires-2
+quietly-requires-2 c κs = search needs
+
+-- src/pins.rt:205:5
+returns-2 : tie.Need-returns-2
+unfolding secondPinA
+returns-2 c = simp (sym (c .before .before .before .before .bit .ensures), sym (c .before .before .before .asserts .ensures), c .before .before .if1 .left, sym (c .quietly2 .ensures))
+
+pub second-pin-a-spec : {M : Type 1} → statement M
+second-pin-a-spec =
+    tie.close
+    (tie.spec
+    bit-requires
+    asserts-requires
+    rules-a-requires
+    second-edge-requires
+    quietly-requires
+    returns
+    quietly-requires-2
+    returns-2)

@@ -1,0 +1,101 @@
+-- `event_at` meets its contract: each arm is the row of its kind.
+use borrow.Author.Needs.{needs}
+use native.Mathlib.Omega.{arith}
+use mathlib.Core.Path.{_≡_, sym, ap, _∙_}
+use Prim.Native.Nat.{ℕ, _≤_, _<_}
+use denote.Ref.{now}
+use Rattle.wire.specs.Next.{eventAt}
+use Rattle.wire.proofs.next.event_at.Statement.{statement}
+use Rattle.wire.proofs.next.event_at.Tie as tie
+
+-- a kind that is none of 0 to 6 is 7
+past-three : (k : ℕ) → (k ≡ 0 → ⊥) → (k ≡ 1 → ⊥) → (k ≡ 2 → ⊥) → (k ≡ 3 → ⊥) → 4 ≤ k
+past-three k n0 n1 n2 n3 = omega arith
+
+seven : (k : ℕ) → k < 8 → 4 ≤ k → (k ≡ 4 → ⊥) → (k ≡ 5 → ⊥) → (k ≡ 6 → ⊥) → k ≡ 7
+seven k below past n4 n5 n6 = omega arith
+
+add-fields : tie.Need-add-fields
+add-fields c = search needs
+
+byte-field-requires : tie.Need-byte-field-requires
+byte-field-requires c κs = search needs
+
+add-byte-field : tie.Need-add-byte-field
+add-byte-field c = search needs
+
+byte-field-requires-2 : tie.Need-byte-field-requires-2
+byte-field-requires-2 c κs = search needs
+
+byte-field-requires-3 : tie.Need-byte-field-requires-3
+byte-field-requires-3 c κs = search needs
+
+pin-at-requires : tie.Need-pin-at-requires
+pin-at-requires c κs = search needs
+
+field-requires : tie.Need-field-requires
+field-requires c κs = search needs
+
+add-t16 : tie.Need-add-t16
+add-t16 c = search needs
+
+close-requires : tie.Need-close-requires
+close-requires c κs = search needs
+
+returns : tie.Need-returns
+unfolding eventAt
+returns c = simp (c .before .before .match .keys1, sym (c .before .byte-field .ensures), sym (c .byte-field2 .ensures))
+
+returns-2 : tie.Need-returns-2
+unfolding eventAt
+returns-2 c = simp (c .before .match .keys2, sym (c .byte-field3 .ensures))
+
+returns-3 : tie.Need-returns-3
+unfolding eventAt
+returns-3 c = simp (c .match .keys3)
+
+returns-4 : tie.Need-returns-4
+unfolding eventAt
+returns-4 c = simp (c .match .keys4)
+
+returns-5 : tie.Need-returns-5
+unfolding eventAt
+returns-5 c = simp (c .before .match .keys5, sym (c .pin-at .ensures))
+
+returns-6 : tie.Need-returns-6
+unfolding eventAt
+returns-6 c = simp (c .before .match .keys6, sym (c .field .ensures .0))
+
+returns-7 : tie.Need-returns-7
+unfolding eventAt
+returns-7 c = simp (c .match .keys7)
+
+returns-8 : tie.Need-returns-8
+unfolding eventAt
+returns-8 c =
+    let a = c .before .before .before .args in
+    let r = c .before .match .rest in
+    let past = past-three (a .kind) (r .0 .0 .0 .0 .0 .0 .1) (r .0 .0 .0 .0 .0 .1) (r .0 .0 .0 .0 .1) (r .0 .0 .0 .1) in
+    c .close .ensures ∙ ap (eventAt (now (a .list)) (a .at) (a .after)) (sym (seven (a .kind) (c .before .before .before .pre .2) past (r .0 .0 .1) (r .0 .1) (r .1)))
+
+pub event-at-spec : {M : Type 1} → statement M
+event-at-spec =
+    tie.close
+    (tie.spec
+    add-fields
+    byte-field-requires
+    add-byte-field
+    byte-field-requires-2
+    byte-field-requires-3
+    pin-at-requires
+    field-requires
+    add-t16
+    close-requires
+    returns
+    returns-2
+    returns-3
+    returns-4
+    returns-5
+    returns-6
+    returns-7
+    returns-8)

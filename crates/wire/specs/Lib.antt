@@ -1,0 +1,9 @@
+pub mod Field
+pub mod Next
+pub mod List
+pub mod Needs
+pub mod WellFormed
+pub mod Finds
+pub mod Rest
+pub mod Refusals
+pub mod Totals

@@ -54,3 +54,9 @@ pub struct Stepped {
     pub device: Device,
     pub opened: bool,
 }
+
+// The device after many clocks, and how many of them opened the gate.
+pub struct Run {
+    pub device: Device,
+    pub used: usize,
+}

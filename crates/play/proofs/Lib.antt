@@ -1,0 +1,5 @@
+pub mod Leaves
+pub mod Needed
+pub mod Reached
+pub mod Settled
+pub mod Unique

@@ -3,23 +3,17 @@ use Rattle.report.specs.Digit.{digitOf}
 use borrow.Author.Needs.{needs}
 use Rattle.report.proofs.digit.Statement.{statement}
 use Rattle.report.proofs.digit.Tie as tie
-use Rattle.report.proofs.digit.Reads as reads
-use Rattle.report.proofs.digit.Lts as lts
 
--- src/lib.rt:16:16
 add-result : tie.Need-add-result
 add-result c = search needs
 
--- src/lib.rt:16:9
 returns : tie.Need-returns
 unfolding digitOf
 returns c = simp (lt-ltb _ _ (c .if1 .taken), lt-leb _ _ (c .if1 .taken))
 
--- src/lib.rt:18:5
 add-result-2 : tie.Need-add-result-2
 add-result-2 c = search needs
 
--- src/lib.rt:11:1
 returns-2 : tie.Need-returns-2
 unfolding digitOf
 returns-2 c = simp (le-leb _ _ (c .if1 .left), le-ltb _ _ (c .if1 .left))

@@ -3,30 +3,20 @@ use Rattle.device.specs.Pins.{piackPin}
 use borrow.Author.Needs.{needs}
 use Rattle.device.proofs.Device.piack_pin.Statement.{statement}
 use Rattle.device.proofs.Device.piack_pin.Tie as tie
-use Rattle.device.proofs.Device.piack_pin.Reads as reads
-use Rattle.device.proofs.Device.piack_pin.Lts as lts
-use Rattle.bits.proofs.bit.Reads as bit-reads
-use Rattle.device.proofs.Device.outside_c.Reads as outside-c-reads
-use Rattle.device.proofs.Device.port_c.Reads as port-c-reads
 
--- src/pins.rt:90:12
 bit-requires : tie.Need-bit-requires
 bit-requires c κs = search needs
 
--- src/pins.rt:91:13
 outside-c-requires : tie.Need-outside-c-requires
 outside-c-requires c κs = search needs
 
--- src/pins.rt:91:13
 returns : tie.Need-returns
 unfolding piackPin
 returns c = simp (sym (c .before .before .bit .ensures), c .before .if1 .taken, sym (c .outside-c .ensures))
 
--- src/pins.rt:93:9
 port-c-requires : tie.Need-port-c-requires
 port-c-requires c κs = search needs
 
--- src/pins.rt:87:5
 returns-2 : tie.Need-returns-2
 unfolding piackPin
 returns-2 c = simp (sym (c .before .before .bit .ensures), c .before .if1 .left, sym (c .port-c .ensures))

@@ -4,48 +4,33 @@ use Rattle.device.specs.Interrupts.{portAcknowledge, answerOf}
 use borrow.Author.Needs.{needs}
 use Rattle.device.proofs.Device.port_acknowledge.Statement.{statement}
 use Rattle.device.proofs.Device.port_acknowledge.Tie as tie
-use Rattle.device.proofs.Device.port_acknowledge.Reads as reads
-use Rattle.device.proofs.Device.port_acknowledge.Lts as lts
-use Rattle.bits.proofs.bit.Reads as bit-reads
-use Rattle.device.proofs.Device.enabled.Reads as enabled-reads
-use Rattle.device.proofs.interrupts.Flags.highest.Reads as highest-reads
-use Rattle.device.proofs.interrupts.vector.Reads as vector-reads
 
--- src/interrupts.rt:166:13
 bit-requires : tie.Need-bit-requires
 bit-requires c κs = search needs
 
--- src/interrupts.rt:167:13
 returns : tie.Need-returns
 unfolding portAcknowledge answerOf
 returns c = simp (sym (c .before .bit .ensures), not-true (c .before .bit .result) (c .if1 .taken))
 
--- src/interrupts.rt:169:23
 enabled-requires : tie.Need-enabled-requires
 enabled-requires c κs = search needs
 
--- src/interrupts.rt:169:13
 highest-requires : tie.Need-highest-requires
 highest-requires c κs = search needs
 
--- src/interrupts.rt:170:29
 enum-known-highest : tie.Need-enum-known-highest
 enum-known-highest c = search needs
 
--- src/interrupts.rt:171:13
 enum-told : tie.Need-enum-told
 enum-told c = search needs
 
--- src/interrupts.rt:171:13
 returns-2 : tie.Need-returns-2
 unfolding portAcknowledge answerOf
 returns-2 c = simp (sym (c .before .before .before .before .before .bit .ensures), not-false (c .before .before .before .before .before .bit .result) (c .before .before .before .before .if1 .left), sym (c .before .before .before .enabled .ensures), sym (c .before .before .highest .ensures), c .enum-told .given .1)
 
--- src/interrupts.rt:173:24
 vector-requires : tie.Need-vector-requires
 vector-requires c κs = search needs
 
--- src/interrupts.rt:163:5
 returns-3 : tie.Need-returns-3
 unfolding portAcknowledge answerOf
 returns-3 c = simp (sym (c .before .before .before .before .before .before .before .bit .ensures), not-false (c .before .before .before .before .before .before .before .bit .result) (c .before .before .before .before .before .before .if1 .left), sym (c .before .before .before .before .before .enabled .ensures), sym (c .before .before .before .before .highest .ensures), c .before .before .highest2 .given .1, sym (c .vector .ensures))

@@ -5,231 +5,172 @@ use Rattle.device.specs.Registers.{readOf}
 use borrow.Author.Needs.{needs}
 use Rattle.device.proofs.Device.read.Statement.{statement}
 use Rattle.device.proofs.Device.read.Tie as tie
-use Rattle.device.proofs.Device.read.Reads as reads
-use Rattle.device.proofs.Device.read.Lts as lts
-use Rattle.bits.proofs.weight.Reads as weight-reads
-use Rattle.device.proofs.Device.pins_a.Reads as pins-a-reads
-use Rattle.device.proofs.Device.pins_b.Reads as pins-b-reads
-use Rattle.device.proofs.Device.plainly.Reads as plainly-reads
-use Rattle.device.proofs.Device.psr.Reads as psr-reads
-use Rattle.device.proofs.Device.read_a.Reads as read-a-reads
-use Rattle.device.proofs.Device.read_b.Reads as read-b-reads
-use Rattle.device.proofs.Device.read_c.Reads as read-c-reads
-use Rattle.timer.proofs.registers.byte_of.Reads as byte-of-reads
 
--- src/registers.rt:67:18
 plainly-requires : tie.Need-plainly-requires
 plainly-requires c κs = search needs
 
--- src/registers.rt:68:18
 plainly-requires-2 : tie.Need-plainly-requires-2
 plainly-requires-2 c κs = search needs
 
--- src/registers.rt:69:18
 plainly-requires-3 : tie.Need-plainly-requires-3
 plainly-requires-3 c κs = search needs
 
--- src/registers.rt:70:18
 plainly-requires-4 : tie.Need-plainly-requires-4
 plainly-requires-4 c κs = search needs
 
--- src/registers.rt:71:18
 plainly-requires-5 : tie.Need-plainly-requires-5
 plainly-requires-5 c κs = search needs
 
--- src/registers.rt:72:18
 plainly-requires-6 : tie.Need-plainly-requires-6
 plainly-requires-6 c κs = search needs
 
--- src/registers.rt:73:18
 plainly-requires-7 : tie.Need-plainly-requires-7
 plainly-requires-7 c κs = search needs
 
--- src/registers.rt:74:18
 plainly-requires-8 : tie.Need-plainly-requires-8
 plainly-requires-8 c κs = search needs
 
--- src/registers.rt:75:18
 read-a-requires : tie.Need-read-a-requires
 read-a-requires c κs = search needs
 
--- src/registers.rt:76:18
 read-b-requires : tie.Need-read-b-requires
 read-b-requires c κs = search needs
 
--- src/registers.rt:77:32
 pins-a-requires : tie.Need-pins-a-requires
 pins-a-requires c κs = search needs
 
--- src/registers.rt:77:19
 plainly-requires-9 : tie.Need-plainly-requires-9
 plainly-requires-9 c κs = search needs
 
--- src/registers.rt:78:32
 pins-b-requires : tie.Need-pins-b-requires
 pins-b-requires c κs = search needs
 
--- src/registers.rt:78:19
 plainly-requires-10 : tie.Need-plainly-requires-10
 plainly-requires-10 c κs = search needs
 
--- src/registers.rt:79:32
 read-c-requires : tie.Need-read-c-requires
 read-c-requires c κs = search needs
 
--- src/registers.rt:79:19
 plainly-requires-11 : tie.Need-plainly-requires-11
 plainly-requires-11 c κs = search needs
 
--- src/registers.rt:80:32
 psr-requires : tie.Need-psr-requires
 psr-requires c κs = search needs
 
--- src/registers.rt:80:19
 plainly-requires-12 : tie.Need-plainly-requires-12
 plainly-requires-12 c κs = search needs
 
--- src/registers.rt:81:19
 plainly-requires-13 : tie.Need-plainly-requires-13
 plainly-requires-13 c κs = search needs
 
--- src/registers.rt:82:19
 plainly-requires-14 : tie.Need-plainly-requires-14
 plainly-requires-14 c κs = search needs
 
--- src/registers.rt:85:32
 weight-requires : tie.Need-weight-requires
 weight-requires c κs = search needs
 
--- src/registers.rt:85:19
 plainly-requires-15 : tie.Need-plainly-requires-15
 plainly-requires-15 c κs = search needs
 
--- src/registers.rt:83:37
 byte-of-requires : tie.Need-byte-of-requires
 byte-of-requires c κs = search needs
 
--- src/registers.rt:83:24
 plainly-requires-16 : tie.Need-plainly-requires-16
 plainly-requires-16 c κs = search needs
 
--- src/registers.rt:84:37
 byte-of-requires-2 : tie.Need-byte-of-requires-2
 byte-of-requires-2 c κs = search needs
 
--- src/registers.rt:84:24
 plainly-requires-17 : tie.Need-plainly-requires-17
 plainly-requires-17 c κs = search needs
 
--- src/registers.rt:63:5
 returns : tie.Need-returns
 unfolding readOf
 returns c = simp (c .before .match .keys1, sym (c .plainly .ensures))
 
--- src/registers.rt:63:5
 returns-2 : tie.Need-returns-2
 unfolding readOf
 returns-2 c = simp (c .before .match .keys2, sym (c .plainly2 .ensures))
 
--- src/registers.rt:63:5
 returns-3 : tie.Need-returns-3
 unfolding readOf
 returns-3 c = simp (c .before .match .keys3, sym (c .plainly3 .ensures))
 
--- src/registers.rt:63:5
 returns-4 : tie.Need-returns-4
 unfolding readOf
 returns-4 c = simp (c .before .match .keys4, sym (c .plainly4 .ensures))
 
--- src/registers.rt:63:5
 returns-5 : tie.Need-returns-5
 unfolding readOf
 returns-5 c = simp (c .before .match .keys5, sym (c .plainly5 .ensures))
 
--- src/registers.rt:63:5
 returns-6 : tie.Need-returns-6
 unfolding readOf
 returns-6 c = simp (c .before .match .keys6, sym (c .plainly6 .ensures))
 
--- src/registers.rt:63:5
 returns-7 : tie.Need-returns-7
 unfolding readOf
 returns-7 c = simp (c .before .match .keys7, sym (c .plainly7 .ensures))
 
--- src/registers.rt:63:5
 returns-8 : tie.Need-returns-8
 unfolding readOf
 returns-8 c = simp (c .before .match .keys8, sym (c .plainly8 .ensures))
 
--- src/registers.rt:63:5
 returns-9 : tie.Need-returns-9
 unfolding readOf
 returns-9 c = simp (c .before .match .keys9, sym (c .read-a .ensures))
 
--- src/registers.rt:63:5
 returns-10 : tie.Need-returns-10
 unfolding readOf
 returns-10 c = simp (c .before .match .keys10, sym (c .read-b .ensures))
 
--- src/registers.rt:63:5
 returns-11 : tie.Need-returns-11
 unfolding readOf
 returns-11 c = simp (c .before .before .match .keys11, sym (c .before .pins-a .ensures), sym (c .plainly9 .ensures))
 
--- src/registers.rt:63:5
 returns-12 : tie.Need-returns-12
 unfolding readOf
 returns-12 c = simp (c .before .before .match .keys12, sym (c .before .pins-b .ensures), sym (c .plainly10 .ensures))
 
--- src/registers.rt:63:5
 returns-13 : tie.Need-returns-13
 unfolding readOf
 returns-13 c = simp (c .before .before .match .keys13, sym (c .before .read-c .ensures), sym (c .plainly11 .ensures))
 
--- src/registers.rt:63:5
 returns-14 : tie.Need-returns-14
 unfolding readOf
 returns-14 c = simp (c .before .before .match .keys14, sym (c .before .psr .ensures), sym (c .plainly12 .ensures))
 
--- src/registers.rt:63:5
 returns-15 : tie.Need-returns-15
 unfolding readOf
 returns-15 c = simp (c .before .match .keys15, sym (c .plainly13 .ensures))
 
--- src/registers.rt:63:5
 returns-16 : tie.Need-returns-16
 unfolding readOf
 returns-16 c = simp (c .before .match .keys16, sym (c .plainly14 .ensures))
 
--- src/registers.rt:63:5
 returns-17 : tie.Need-returns-17
 unfolding readOf
 returns-17 c = simp (c .before .before .match .keys17, sym (c .before .weight .ensures), sym (c .plainly15 .ensures))
 
--- src/registers.rt:63:5
 returns-18 : tie.Need-returns-18
 unfolding readOf
-returns-18 c = simp (ne-eqb _ _ (c .before .before .before .before .match .rest .0 .0 .0 .0 .0 .0 .0 .0 .0 .0 .0 .0 .0 .0 .0 .0 .1), ne-eqb _ _ (c .before .before .before .before .match .rest .0 .0 .0 .0 .0 .0 .0 .0 .0 .0 .0 .0 .0 .0 .0 .1), ne-eqb _ _ (c .before .before .before .before .match .rest .0 .0 .0 .0 .0 .0 .0 .0 .0 .0 .0 .0 .0 .0 .1), ne-eqb _ _ (c .before .before .before .before .match .rest .0 .0 .0 .0 .0 .0 .0 .0 .0 .0 .0 .0 .0 .1), ne-eqb _ _ (c .before .before .before .before .match .rest .0 .0 .0 .0 .0 .0 .0 .0 .0 .0 .0 .0 .1), ne-eqb _ _ (c .before .before .before .before .match .rest .0 .0 .0 .0 .0 .0 .0 .0 .0 .0 .0 .1), ne-eqb _ _ (c .before .before .before .before .match .rest .0 .0 .0 .0 .0 .0 .0 .0 .0 .0 .1), ne-eqb _ _ (c .before .before .before .before .match .rest .0 .0 .0 .0 .0 .0 .0 .0 .0 .1), ne-eqb _ _ (c .before .before .before .before .match .rest .0 .0 .0 .0 .0 .0 .0 .0 .1), ne-eqb _ _ (c .before .before .before .before .match .rest .0 .0 .0 .0 .0 .0 .0 .1), ne-eqb _ _ (c .before .before .before .before .match .rest .0 .0 .0 .0 .0 .0 .1), ne-eqb _ _ (c .before .before .before .before .match .rest .0 .0 .0 .0 .0 .1), ne-eqb _ _ (c .before .before .before .before .match .rest .0 .0 .0 .0 .1), ne-eqb _ _ (c .before .before .before .before .match .rest .0 .0 .0 .1), ne-eqb _ _ (c .before .before .before .before .match .rest .0 .0 .1), ne-eqb _ _ (c .before .before .before .before .match .rest .0 .1), ne-eqb _ _ (c .before .before .before .before .match .rest .1), le-leb _ _ (c .before .before .before .if1 .left), le-ltb _ _ (c .before .before .before .if1 .left), lt-ltb _ _ (c .before .before .if2 .taken), lt-leb _ _ (c .before .before .if2 .taken), sym (c .before .byte-of .ensures), sym (c .plainly16 .ensures))
+returns-18 c = simp (ne-eqb _ _ (c .before .before .before .before .match .rest .0 .0 .0 .0 .0 .0 .0 .0 .0 .0 .0 .0 .0 .0 .0 .0 .1), ne-eqb _ _ (c .before .before .before .before .match .rest .0 .0 .0 .0 .0 .0 .0 .0 .0 .0 .0 .0 .0 .0 .0 .1), ne-eqb _ _ (c .before .before .before .before .match .rest .0 .0 .0 .0 .0 .0 .0 .0 .0 .0 .0 .0 .0 .0 .1), ne-eqb _ _ (c .before .before .before .before .match .rest .0 .0 .0 .0 .0 .0 .0 .0 .0 .0 .0 .0 .0 .1), ne-eqb _ _ (c .before .before .before .before .match .rest .0 .0 .0 .0 .0 .0 .0 .0 .0 .0 .0 .0 .1), ne-eqb _ _ (c .before .before .before .before .match .rest .0 .0 .0 .0 .0 .0 .0 .0 .0 .0 .0 .1), ne-eqb _ _ (c .before .before .before .before .match .rest .0 .0 .0 .0 .0 .0 .0 .0 .0 .0 .1), ne-eqb _ _ (c .before .before .before .before .match .rest .0 .0 .0 .0 .0 .0 .0 .0 .0 .1), ne-eqb _ _ (c .before .before .before .before .match .rest .0 .0 .0 .0 .0 .0 .0 .0 .1), ne-eqb _ _ (c .before .before .before .before .match .rest .0 .0 .0 .0 .0 .0 .0 .1), ne-eqb _ _ (c .before .before .before .before .match .rest .0 .0 .0 .0 .0 .0 .1), ne-eqb _ _ (c .before .before .before .before .match .rest .0 .0 .0 .0 .0 .1), ne-eqb _ _ (c .before .before .before .before .match .rest .0 .0 .0 .0 .1), ne-eqb _ _ (c .before .before .before .before .match .rest .0 .0 .0 .1), ne-eqb _ _ (c .before .before .before .before .match .rest .0 .0 .1), ne-eqb _ _ (c .before .before .before .before .match .rest .0 .1), ne-eqb _ _ (c .before .before .before .before .match .rest .1), le-leb _ _ (c .before .before .before .if1 .left), lt-ltb _ _ (c .before .before .if2 .taken), sym (c .before .byte-of .ensures), sym (c .plainly16 .ensures))
 
--- src/registers.rt:63:5
 returns-19 : tie.Need-returns-19
 unfolding readOf
-returns-19 c = simp (ne-eqb _ _ (c .before .before .before .before .before .before .match .rest .0 .0 .0 .0 .0 .0 .0 .0 .0 .0 .0 .0 .0 .0 .0 .0 .1), ne-eqb _ _ (c .before .before .before .before .before .before .match .rest .0 .0 .0 .0 .0 .0 .0 .0 .0 .0 .0 .0 .0 .0 .0 .1), ne-eqb _ _ (c .before .before .before .before .before .before .match .rest .0 .0 .0 .0 .0 .0 .0 .0 .0 .0 .0 .0 .0 .0 .1), ne-eqb _ _ (c .before .before .before .before .before .before .match .rest .0 .0 .0 .0 .0 .0 .0 .0 .0 .0 .0 .0 .0 .1), ne-eqb _ _ (c .before .before .before .before .before .before .match .rest .0 .0 .0 .0 .0 .0 .0 .0 .0 .0 .0 .0 .1), ne-eqb _ _ (c .before .before .before .before .before .before .match .rest .0 .0 .0 .0 .0 .0 .0 .0 .0 .0 .0 .1), ne-eqb _ _ (c .before .before .before .before .before .before .match .rest .0 .0 .0 .0 .0 .0 .0 .0 .0 .0 .1), ne-eqb _ _ (c .before .before .before .before .before .before .match .rest .0 .0 .0 .0 .0 .0 .0 .0 .0 .1), ne-eqb _ _ (c .before .before .before .before .before .before .match .rest .0 .0 .0 .0 .0 .0 .0 .0 .1), ne-eqb _ _ (c .before .before .before .before .before .before .match .rest .0 .0 .0 .0 .0 .0 .0 .1), ne-eqb _ _ (c .before .before .before .before .before .before .match .rest .0 .0 .0 .0 .0 .0 .1), ne-eqb _ _ (c .before .before .before .before .before .before .match .rest .0 .0 .0 .0 .0 .1), ne-eqb _ _ (c .before .before .before .before .before .before .match .rest .0 .0 .0 .0 .1), ne-eqb _ _ (c .before .before .before .before .before .before .match .rest .0 .0 .0 .1), ne-eqb _ _ (c .before .before .before .before .before .before .match .rest .0 .0 .1), ne-eqb _ _ (c .before .before .before .before .before .before .match .rest .0 .1), ne-eqb _ _ (c .before .before .before .before .before .before .match .rest .1), le-leb _ _ (c .before .before .before .before .before .if1 .left), le-ltb _ _ (c .before .before .before .before .before .if1 .left), le-leb _ _ (c .before .before .before .before .if2 .left), le-ltb _ _ (c .before .before .before .before .if2 .left), le-leb _ _ (c .before .before .before .if3 .left), le-ltb _ _ (c .before .before .before .if3 .left), lt-ltb _ _ (c .before .before .if4 .taken), lt-leb _ _ (c .before .before .if4 .taken), sym (c .before .byte-of2 .ensures), sym (c .plainly17 .ensures))
+returns-19 c = simp (ne-eqb _ _ (c .before .before .before .before .before .before .match .rest .0 .0 .0 .0 .0 .0 .0 .0 .0 .0 .0 .0 .0 .0 .0 .0 .1), ne-eqb _ _ (c .before .before .before .before .before .before .match .rest .0 .0 .0 .0 .0 .0 .0 .0 .0 .0 .0 .0 .0 .0 .0 .1), ne-eqb _ _ (c .before .before .before .before .before .before .match .rest .0 .0 .0 .0 .0 .0 .0 .0 .0 .0 .0 .0 .0 .0 .1), ne-eqb _ _ (c .before .before .before .before .before .before .match .rest .0 .0 .0 .0 .0 .0 .0 .0 .0 .0 .0 .0 .0 .1), ne-eqb _ _ (c .before .before .before .before .before .before .match .rest .0 .0 .0 .0 .0 .0 .0 .0 .0 .0 .0 .0 .1), ne-eqb _ _ (c .before .before .before .before .before .before .match .rest .0 .0 .0 .0 .0 .0 .0 .0 .0 .0 .0 .1), ne-eqb _ _ (c .before .before .before .before .before .before .match .rest .0 .0 .0 .0 .0 .0 .0 .0 .0 .0 .1), ne-eqb _ _ (c .before .before .before .before .before .before .match .rest .0 .0 .0 .0 .0 .0 .0 .0 .0 .1), ne-eqb _ _ (c .before .before .before .before .before .before .match .rest .0 .0 .0 .0 .0 .0 .0 .0 .1), ne-eqb _ _ (c .before .before .before .before .before .before .match .rest .0 .0 .0 .0 .0 .0 .0 .1), ne-eqb _ _ (c .before .before .before .before .before .before .match .rest .0 .0 .0 .0 .0 .0 .1), ne-eqb _ _ (c .before .before .before .before .before .before .match .rest .0 .0 .0 .0 .0 .1), ne-eqb _ _ (c .before .before .before .before .before .before .match .rest .0 .0 .0 .0 .1), ne-eqb _ _ (c .before .before .before .before .before .before .match .rest .0 .0 .0 .1), ne-eqb _ _ (c .before .before .before .before .before .before .match .rest .0 .0 .1), ne-eqb _ _ (c .before .before .before .before .before .before .match .rest .0 .1), ne-eqb _ _ (c .before .before .before .before .before .before .match .rest .1), le-leb _ _ (c .before .before .before .before .before .if1 .left), le-ltb _ _ (c .before .before .before .before .if2 .left), le-leb _ _ (c .before .before .before .if3 .left), lt-ltb _ _ (c .before .before .if4 .taken), sym (c .before .byte-of2 .ensures), sym (c .plainly17 .ensures))
 
--- src/registers.rt:63:5
 returns-20 : tie.Need-returns-20
 unfolding readOf
-returns-20 c = simp (ne-eqb _ _ (c .before .match .rest .0 .0 .0 .0 .0 .0 .0 .0 .0 .0 .0 .0 .0 .0 .0 .0 .1), ne-eqb _ _ (c .before .match .rest .0 .0 .0 .0 .0 .0 .0 .0 .0 .0 .0 .0 .0 .0 .0 .1), ne-eqb _ _ (c .before .match .rest .0 .0 .0 .0 .0 .0 .0 .0 .0 .0 .0 .0 .0 .0 .1), ne-eqb _ _ (c .before .match .rest .0 .0 .0 .0 .0 .0 .0 .0 .0 .0 .0 .0 .0 .1), ne-eqb _ _ (c .before .match .rest .0 .0 .0 .0 .0 .0 .0 .0 .0 .0 .0 .0 .1), ne-eqb _ _ (c .before .match .rest .0 .0 .0 .0 .0 .0 .0 .0 .0 .0 .0 .1), ne-eqb _ _ (c .before .match .rest .0 .0 .0 .0 .0 .0 .0 .0 .0 .0 .1), ne-eqb _ _ (c .before .match .rest .0 .0 .0 .0 .0 .0 .0 .0 .0 .1), ne-eqb _ _ (c .before .match .rest .0 .0 .0 .0 .0 .0 .0 .0 .1), ne-eqb _ _ (c .before .match .rest .0 .0 .0 .0 .0 .0 .0 .1), ne-eqb _ _ (c .before .match .rest .0 .0 .0 .0 .0 .0 .1), ne-eqb _ _ (c .before .match .rest .0 .0 .0 .0 .0 .1), ne-eqb _ _ (c .before .match .rest .0 .0 .0 .0 .1), ne-eqb _ _ (c .before .match .rest .0 .0 .0 .1), ne-eqb _ _ (c .before .match .rest .0 .0 .1), ne-eqb _ _ (c .before .match .rest .0 .1), ne-eqb _ _ (c .before .match .rest .1), lt-ltb _ _ (c .if1 .taken), lt-leb _ _ (c .if1 .taken), lt-leb 23 (c .before .before .args .register) (omega (arith, c .if1 .taken)))
+returns-20 c = simp (ne-eqb _ _ (c .before .match .rest .0 .0 .0 .0 .0 .0 .0 .0 .0 .0 .0 .0 .0 .0 .0 .0 .1), ne-eqb _ _ (c .before .match .rest .0 .0 .0 .0 .0 .0 .0 .0 .0 .0 .0 .0 .0 .0 .0 .1), ne-eqb _ _ (c .before .match .rest .0 .0 .0 .0 .0 .0 .0 .0 .0 .0 .0 .0 .0 .0 .1), ne-eqb _ _ (c .before .match .rest .0 .0 .0 .0 .0 .0 .0 .0 .0 .0 .0 .0 .0 .1), ne-eqb _ _ (c .before .match .rest .0 .0 .0 .0 .0 .0 .0 .0 .0 .0 .0 .0 .1), ne-eqb _ _ (c .before .match .rest .0 .0 .0 .0 .0 .0 .0 .0 .0 .0 .0 .1), ne-eqb _ _ (c .before .match .rest .0 .0 .0 .0 .0 .0 .0 .0 .0 .0 .1), ne-eqb _ _ (c .before .match .rest .0 .0 .0 .0 .0 .0 .0 .0 .0 .1), ne-eqb _ _ (c .before .match .rest .0 .0 .0 .0 .0 .0 .0 .0 .1), ne-eqb _ _ (c .before .match .rest .0 .0 .0 .0 .0 .0 .0 .1), ne-eqb _ _ (c .before .match .rest .0 .0 .0 .0 .0 .0 .1), ne-eqb _ _ (c .before .match .rest .0 .0 .0 .0 .0 .1), ne-eqb _ _ (c .before .match .rest .0 .0 .0 .0 .1), ne-eqb _ _ (c .before .match .rest .0 .0 .0 .1), ne-eqb _ _ (c .before .match .rest .0 .0 .1), ne-eqb _ _ (c .before .match .rest .0 .1), ne-eqb _ _ (c .before .match .rest .1), lt-leb _ _ (c .if1 .taken), lt-leb 23 (c .before .before .args .register) (omega (arith, c .if1 .taken)))
 
--- src/registers.rt:63:5
 returns-21 : tie.Need-returns-21
 unfolding readOf
-returns-21 c = simp (ne-eqb _ _ (c .before .before .before .match .rest .0 .0 .0 .0 .0 .0 .0 .0 .0 .0 .0 .0 .0 .0 .0 .0 .1), ne-eqb _ _ (c .before .before .before .match .rest .0 .0 .0 .0 .0 .0 .0 .0 .0 .0 .0 .0 .0 .0 .0 .1), ne-eqb _ _ (c .before .before .before .match .rest .0 .0 .0 .0 .0 .0 .0 .0 .0 .0 .0 .0 .0 .0 .1), ne-eqb _ _ (c .before .before .before .match .rest .0 .0 .0 .0 .0 .0 .0 .0 .0 .0 .0 .0 .0 .1), ne-eqb _ _ (c .before .before .before .match .rest .0 .0 .0 .0 .0 .0 .0 .0 .0 .0 .0 .0 .1), ne-eqb _ _ (c .before .before .before .match .rest .0 .0 .0 .0 .0 .0 .0 .0 .0 .0 .0 .1), ne-eqb _ _ (c .before .before .before .match .rest .0 .0 .0 .0 .0 .0 .0 .0 .0 .0 .1), ne-eqb _ _ (c .before .before .before .match .rest .0 .0 .0 .0 .0 .0 .0 .0 .0 .1), ne-eqb _ _ (c .before .before .before .match .rest .0 .0 .0 .0 .0 .0 .0 .0 .1), ne-eqb _ _ (c .before .before .before .match .rest .0 .0 .0 .0 .0 .0 .0 .1), ne-eqb _ _ (c .before .before .before .match .rest .0 .0 .0 .0 .0 .0 .1), ne-eqb _ _ (c .before .before .before .match .rest .0 .0 .0 .0 .0 .1), ne-eqb _ _ (c .before .before .before .match .rest .0 .0 .0 .0 .1), ne-eqb _ _ (c .before .before .before .match .rest .0 .0 .0 .1), ne-eqb _ _ (c .before .before .before .match .rest .0 .0 .1), ne-eqb _ _ (c .before .before .before .match .rest .0 .1), ne-eqb _ _ (c .before .before .before .match .rest .1), le-leb _ _ (c .before .before .if1 .left), le-ltb _ _ (c .before .before .if1 .left), le-leb _ _ (c .before .if2 .left), le-ltb _ _ (c .before .if2 .left), lt-ltb _ _ (c .if3 .taken), lt-leb _ _ (c .if3 .taken))
+returns-21 c = simp (ne-eqb _ _ (c .before .before .before .match .rest .0 .0 .0 .0 .0 .0 .0 .0 .0 .0 .0 .0 .0 .0 .0 .0 .1), ne-eqb _ _ (c .before .before .before .match .rest .0 .0 .0 .0 .0 .0 .0 .0 .0 .0 .0 .0 .0 .0 .0 .1), ne-eqb _ _ (c .before .before .before .match .rest .0 .0 .0 .0 .0 .0 .0 .0 .0 .0 .0 .0 .0 .0 .1), ne-eqb _ _ (c .before .before .before .match .rest .0 .0 .0 .0 .0 .0 .0 .0 .0 .0 .0 .0 .0 .1), ne-eqb _ _ (c .before .before .before .match .rest .0 .0 .0 .0 .0 .0 .0 .0 .0 .0 .0 .0 .1), ne-eqb _ _ (c .before .before .before .match .rest .0 .0 .0 .0 .0 .0 .0 .0 .0 .0 .0 .1), ne-eqb _ _ (c .before .before .before .match .rest .0 .0 .0 .0 .0 .0 .0 .0 .0 .0 .1), ne-eqb _ _ (c .before .before .before .match .rest .0 .0 .0 .0 .0 .0 .0 .0 .0 .1), ne-eqb _ _ (c .before .before .before .match .rest .0 .0 .0 .0 .0 .0 .0 .0 .1), ne-eqb _ _ (c .before .before .before .match .rest .0 .0 .0 .0 .0 .0 .0 .1), ne-eqb _ _ (c .before .before .before .match .rest .0 .0 .0 .0 .0 .0 .1), ne-eqb _ _ (c .before .before .before .match .rest .0 .0 .0 .0 .0 .1), ne-eqb _ _ (c .before .before .before .match .rest .0 .0 .0 .0 .1), ne-eqb _ _ (c .before .before .before .match .rest .0 .0 .0 .1), ne-eqb _ _ (c .before .before .before .match .rest .0 .0 .1), ne-eqb _ _ (c .before .before .before .match .rest .0 .1), ne-eqb _ _ (c .before .before .before .match .rest .1), le-leb _ _ (c .before .before .if1 .left), le-ltb _ _ (c .before .if2 .left), lt-leb _ _ (c .if3 .taken))
 
--- src/registers.rt:63:5
 returns-22 : tie.Need-returns-22
 unfolding readOf
-returns-22 c = simp (ne-eqb _ _ (c .before .before .before .before .match .rest .0 .0 .0 .0 .0 .0 .0 .0 .0 .0 .0 .0 .0 .0 .0 .0 .1), ne-eqb _ _ (c .before .before .before .before .match .rest .0 .0 .0 .0 .0 .0 .0 .0 .0 .0 .0 .0 .0 .0 .0 .1), ne-eqb _ _ (c .before .before .before .before .match .rest .0 .0 .0 .0 .0 .0 .0 .0 .0 .0 .0 .0 .0 .0 .1), ne-eqb _ _ (c .before .before .before .before .match .rest .0 .0 .0 .0 .0 .0 .0 .0 .0 .0 .0 .0 .0 .1), ne-eqb _ _ (c .before .before .before .before .match .rest .0 .0 .0 .0 .0 .0 .0 .0 .0 .0 .0 .0 .1), ne-eqb _ _ (c .before .before .before .before .match .rest .0 .0 .0 .0 .0 .0 .0 .0 .0 .0 .0 .1), ne-eqb _ _ (c .before .before .before .before .match .rest .0 .0 .0 .0 .0 .0 .0 .0 .0 .0 .1), ne-eqb _ _ (c .before .before .before .before .match .rest .0 .0 .0 .0 .0 .0 .0 .0 .0 .1), ne-eqb _ _ (c .before .before .before .before .match .rest .0 .0 .0 .0 .0 .0 .0 .0 .1), ne-eqb _ _ (c .before .before .before .before .match .rest .0 .0 .0 .0 .0 .0 .0 .1), ne-eqb _ _ (c .before .before .before .before .match .rest .0 .0 .0 .0 .0 .0 .1), ne-eqb _ _ (c .before .before .before .before .match .rest .0 .0 .0 .0 .0 .1), ne-eqb _ _ (c .before .before .before .before .match .rest .0 .0 .0 .0 .1), ne-eqb _ _ (c .before .before .before .before .match .rest .0 .0 .0 .1), ne-eqb _ _ (c .before .before .before .before .match .rest .0 .0 .1), ne-eqb _ _ (c .before .before .before .before .match .rest .0 .1), ne-eqb _ _ (c .before .before .before .before .match .rest .1), le-leb _ _ (c .before .before .before .if1 .left), le-ltb _ _ (c .before .before .before .if1 .left), le-leb _ _ (c .before .before .if2 .left), le-ltb _ _ (c .before .before .if2 .left), le-leb _ _ (c .before .if3 .left), le-ltb _ _ (c .before .if3 .left), le-leb _ _ (c .if4 .left), le-ltb _ _ (c .if4 .left))
+returns-22 c = simp (ne-eqb _ _ (c .before .before .before .before .match .rest .0 .0 .0 .0 .0 .0 .0 .0 .0 .0 .0 .0 .0 .0 .0 .0 .1), ne-eqb _ _ (c .before .before .before .before .match .rest .0 .0 .0 .0 .0 .0 .0 .0 .0 .0 .0 .0 .0 .0 .0 .1), ne-eqb _ _ (c .before .before .before .before .match .rest .0 .0 .0 .0 .0 .0 .0 .0 .0 .0 .0 .0 .0 .0 .1), ne-eqb _ _ (c .before .before .before .before .match .rest .0 .0 .0 .0 .0 .0 .0 .0 .0 .0 .0 .0 .0 .1), ne-eqb _ _ (c .before .before .before .before .match .rest .0 .0 .0 .0 .0 .0 .0 .0 .0 .0 .0 .0 .1), ne-eqb _ _ (c .before .before .before .before .match .rest .0 .0 .0 .0 .0 .0 .0 .0 .0 .0 .0 .1), ne-eqb _ _ (c .before .before .before .before .match .rest .0 .0 .0 .0 .0 .0 .0 .0 .0 .0 .1), ne-eqb _ _ (c .before .before .before .before .match .rest .0 .0 .0 .0 .0 .0 .0 .0 .0 .1), ne-eqb _ _ (c .before .before .before .before .match .rest .0 .0 .0 .0 .0 .0 .0 .0 .1), ne-eqb _ _ (c .before .before .before .before .match .rest .0 .0 .0 .0 .0 .0 .0 .1), ne-eqb _ _ (c .before .before .before .before .match .rest .0 .0 .0 .0 .0 .0 .1), ne-eqb _ _ (c .before .before .before .before .match .rest .0 .0 .0 .0 .0 .1), ne-eqb _ _ (c .before .before .before .before .match .rest .0 .0 .0 .0 .1), ne-eqb _ _ (c .before .before .before .before .match .rest .0 .0 .0 .1), ne-eqb _ _ (c .before .before .before .before .match .rest .0 .0 .1), ne-eqb _ _ (c .before .before .before .before .match .rest .0 .1), ne-eqb _ _ (c .before .before .before .before .match .rest .1), le-leb _ _ (c .before .before .before .if1 .left), le-ltb _ _ (c .before .before .if2 .left), le-leb _ _ (c .before .if3 .left), le-ltb _ _ (c .if4 .left))
 
 pub read-spec : {M : Type 1} → statement M
 read-spec =

@@ -3,30 +3,20 @@ use Rattle.device.specs.Pins.{tiackPin}
 use borrow.Author.Needs.{needs}
 use Rattle.device.proofs.Device.tiack_pin.Statement.{statement}
 use Rattle.device.proofs.Device.tiack_pin.Tie as tie
-use Rattle.device.proofs.Device.tiack_pin.Reads as reads
-use Rattle.device.proofs.Device.tiack_pin.Lts as lts
-use Rattle.device.proofs.Device.outside_c.Reads as outside-c-reads
-use Rattle.device.proofs.Device.port_c.Reads as port-c-reads
-use Rattle.timer.proofs.control.function.Reads as function-reads
 
--- src/pins.rt:100:13
 function-requires : tie.Need-function-requires
 function-requires c κs = search needs
 
--- src/pins.rt:102:13
 outside-c-requires : tie.Need-outside-c-requires
 outside-c-requires c κs = search needs
 
--- src/pins.rt:102:13
 returns : tie.Need-returns
 unfolding tiackPin
 returns c = simp (sym (c .before .before .function .ensures), c .before .if1 .taken, sym (c .outside-c .ensures))
 
--- src/pins.rt:104:9
 port-c-requires : tie.Need-port-c-requires
 port-c-requires c κs = search needs
 
--- src/pins.rt:97:5
 returns-2 : tie.Need-returns-2
 unfolding tiackPin
 returns-2 c = simp (sym (c .before .before .function .ensures), c .before .if1 .left, sym (c .port-c .ensures))

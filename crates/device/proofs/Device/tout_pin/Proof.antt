@@ -3,25 +3,16 @@ use Rattle.device.specs.Pins.{toutPin}
 use borrow.Author.Needs.{needs}
 use Rattle.device.proofs.Device.tout_pin.Statement.{statement}
 use Rattle.device.proofs.Device.tout_pin.Tie as tie
-use Rattle.device.proofs.Device.tout_pin.Reads as reads
-use Rattle.device.proofs.Device.tout_pin.Lts as lts
-use Rattle.device.proofs.Device.outside_c.Reads as outside-c-reads
-use Rattle.device.proofs.Device.port_c.Reads as port-c-reads
-use Rattle.timer.proofs.Timer.tout.Reads as tout-reads
 
--- src/pins.rt:60:25
 port-c-requires : tie.Need-port-c-requires
 port-c-requires c κs = search needs
 
--- src/pins.rt:60:41
 outside-c-requires : tie.Need-outside-c-requires
 outside-c-requires c κs = search needs
 
--- src/pins.rt:60:9
 tout-requires : tie.Need-tout-requires
 tout-requires c κs = search needs
 
--- src/pins.rt:57:5
 returns : tie.Need-returns
 unfolding toutPin
 returns c = simp (sym (c .before .before .port-c .ensures), sym (c .before .outside-c .ensures), sym (c .tout .ensures))

@@ -2,25 +2,19 @@ use borrow.Author.Tests.{ne-eqb}
 use Rattle.device.specs.Interrupts.{offsetOf}
 use Rattle.device.proofs.interrupts.offset.Statement.{statement}
 use Rattle.device.proofs.interrupts.offset.Tie as tie
-use Rattle.device.proofs.interrupts.offset.Reads as reads
-use Rattle.device.proofs.interrupts.offset.Lts as lts
 
--- src/interrupts.rt:46:1
 returns : tie.Need-returns
 unfolding offsetOf
 returns c = simp (c .match .keys1)
 
--- src/interrupts.rt:46:1
 returns-2 : tie.Need-returns-2
 unfolding offsetOf
 returns-2 c = simp (c .match .keys2)
 
--- src/interrupts.rt:46:1
 returns-3 : tie.Need-returns-3
 unfolding offsetOf
 returns-3 c = simp (c .match .keys3)
 
--- src/interrupts.rt:46:1
 returns-4 : tie.Need-returns-4
 unfolding offsetOf
 returns-4 c = simp (ne-eqb _ _ (c .match .rest .0 .0 .1), ne-eqb _ _ (c .match .rest .0 .1), ne-eqb _ _ (c .match .rest .1))

@@ -3,47 +3,35 @@ use Rattle.device.specs.Interrupts.{firstOf}
 use borrow.Author.Needs.{needs}
 use Rattle.device.proofs.interrupts.Flags.first.Statement.{statement}
 use Rattle.device.proofs.interrupts.Flags.first.Tie as tie
-use Rattle.device.proofs.interrupts.Flags.first.Reads as reads
-use Rattle.device.proofs.interrupts.Flags.first.Lts as lts
-use Rattle.device.proofs.interrupts.Flags.flag.Reads as flag-reads
 
--- src/interrupts.rt:90:12
 flag-requires : tie.Need-flag-requires
 flag-requires c κs = search needs
 
--- src/interrupts.rt:91:13
 returns : tie.Need-returns
 unfolding firstOf
 returns c = simp (sym (c .before .flag .ensures), c .if1 .taken)
 
--- src/interrupts.rt:93:12
 flag-requires-2 : tie.Need-flag-requires-2
 flag-requires-2 c κs = search needs
 
--- src/interrupts.rt:94:13
 returns-2 : tie.Need-returns-2
 unfolding firstOf
 returns-2 c = simp (sym (c .before .before .before .flag .ensures), c .before .before .if1 .left, sym (c .before .flag2 .ensures), c .if2 .taken)
 
--- src/interrupts.rt:96:12
 flag-requires-3 : tie.Need-flag-requires-3
 flag-requires-3 c κs = search needs
 
--- src/interrupts.rt:97:13
 returns-3 : tie.Need-returns-3
 unfolding firstOf
 returns-3 c = simp (sym (c .before .before .before .before .before .flag .ensures), c .before .before .before .before .if1 .left, sym (c .before .before .before .flag2 .ensures), c .before .before .if2 .left, sym (c .before .flag3 .ensures), c .if3 .taken)
 
--- src/interrupts.rt:99:12
 flag-requires-4 : tie.Need-flag-requires-4
 flag-requires-4 c κs = search needs
 
--- src/interrupts.rt:100:13
 returns-4 : tie.Need-returns-4
 unfolding firstOf
 returns-4 c = simp (sym (c .before .before .before .before .before .before .before .flag .ensures), c .before .before .before .before .before .before .if1 .left, sym (c .before .before .before .before .before .flag2 .ensures), c .before .before .before .before .if2 .left, sym (c .before .before .before .flag3 .ensures), c .before .before .if3 .left, sym (c .before .flag4 .ensures), c .if4 .taken)
 
--- src/interrupts.rt:87:5
 returns-5 : tie.Need-returns-5
 unfolding firstOf
 returns-5 c = simp (sym (c .before .before .before .before .before .before .before .flag .ensures), c .before .before .before .before .before .before .if1 .left, sym (c .before .before .before .before .before .flag2 .ensures), c .before .before .before .before .if2 .left, sym (c .before .before .before .flag3 .ensures), c .before .before .if3 .left, sym (c .before .flag4 .ensures), c .if4 .left)

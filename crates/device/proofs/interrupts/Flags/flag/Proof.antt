@@ -2,25 +2,19 @@ use borrow.Author.Tests.{ne-eqb}
 use Rattle.device.specs.Interrupts.{flagOf}
 use Rattle.device.proofs.interrupts.Flags.flag.Statement.{statement}
 use Rattle.device.proofs.interrupts.Flags.flag.Tie as tie
-use Rattle.device.proofs.interrupts.Flags.flag.Reads as reads
-use Rattle.device.proofs.interrupts.Flags.flag.Lts as lts
 
--- src/interrupts.rt:75:5
 returns : tie.Need-returns
 unfolding flagOf
 returns c = simp (c .match .keys1)
 
--- src/interrupts.rt:75:5
 returns-2 : tie.Need-returns-2
 unfolding flagOf
 returns-2 c = simp (c .match .keys2)
 
--- src/interrupts.rt:75:5
 returns-3 : tie.Need-returns-3
 unfolding flagOf
 returns-3 c = simp (c .match .keys3)
 
--- src/interrupts.rt:75:5
 returns-4 : tie.Need-returns-4
 unfolding flagOf
 returns-4 c = simp (ne-eqb _ _ (c .match .rest .0 .0 .1), ne-eqb _ _ (c .match .rest .0 .1), ne-eqb _ _ (c .match .rest .1))

@@ -3,32 +3,22 @@ use Rattle.device.specs.Interrupts.{highestOf}
 use borrow.Author.Needs.{needs}
 use Rattle.device.proofs.interrupts.Flags.highest.Statement.{statement}
 use Rattle.device.proofs.interrupts.Flags.highest.Tie as tie
-use Rattle.device.proofs.interrupts.Flags.highest.Reads as reads
-use Rattle.device.proofs.interrupts.Flags.highest.Lts as lts
-use Rattle.device.proofs.interrupts.Flags.first.Reads as first-reads
-use Rattle.device.proofs.interrupts.ranked.Reads as ranked-reads
 
--- src/interrupts.rt:110:20
 ranked-requires : tie.Need-ranked-requires
 ranked-requires c κs = search needs
 
--- src/interrupts.rt:110:36
 ranked-requires-2 : tie.Need-ranked-requires-2
 ranked-requires-2 c κs = search needs
 
--- src/interrupts.rt:110:52
 ranked-requires-3 : tie.Need-ranked-requires-3
 ranked-requires-3 c κs = search needs
 
--- src/interrupts.rt:110:68
 ranked-requires-4 : tie.Need-ranked-requires-4
 ranked-requires-4 c κs = search needs
 
--- src/interrupts.rt:110:9
 first-requires : tie.Need-first-requires
 first-requires c κs = search needs
 
--- src/interrupts.rt:106:5
 returns : tie.Need-returns
 unfolding highestOf
 returns c = simp (sym (c .before .before .before .before .ranked .ensures), sym (c .before .before .before .ranked2 .ensures), sym (c .before .before .ranked3 .ensures), sym (c .before .ranked4 .ensures), sym (c .first .ensures))

@@ -1,0 +1,447 @@
+/* Times the library against the model, built with the same compiler and -O2, in the same run on the same
+ * lists. Both start from the same 52 bytes and write them back; the model plays each list twice (once to find
+ * the totals), as its own way to write nothing on a refusal.
+ *
+ *   bench          the table; exit 1 where a target is missed or results differ
+ *   bench growth   how the library's time grows with events, openings and clocks */
+#define _POSIX_C_SOURCE 199309L
+
+#include "generate.h"
+#include "pit.h"
+
+#include <inttypes.h>
+#include <stdio.h>
+#include <string.h>
+#include <time.h>
+
+#define ROUNDS 7
+#define ROUND_SECONDS 0.02
+#define ANSWERS_ROOM 90112u
+#define OPENINGS_ROOM 8192u
+#define CLOCKS_EVENTS_MOST 6898u
+#define SHORT_LISTS 256u
+#define SHORT_SIZE 32u
+
+struct workload {
+    const char *name;
+    const char *what;
+    double target;        /* least ratio of model time to library time */
+    double model_portion; /* the part of the list the model is given; its time is scaled up */
+    unsigned lists;       /* lists played in one go, each on its device */
+    uint8_t device[PIT_DEVICE_SIZE];
+    struct generate_list list[SHORT_LISTS];
+    struct generate_list part; /* the list the model plays where model_portion is under 1 */
+};
+
+static struct workload work;
+static uint8_t answers[ANSWERS_ROOM];
+static uint32_t openings[OPENINGS_ROOM];
+static int failures;
+
+/* ---- Lists ---- */
+
+struct writer {
+    struct generate_list *list;
+    size_t bits;
+};
+
+static void put(struct writer *writer, uint32_t value, unsigned width)
+{
+    while (width-- > 0) {
+        uint8_t *byte = &writer->list->bytes[writer->bits / 8];
+        unsigned shift = 7 - (unsigned)(writer->bits % 8);
+
+        *byte = (uint8_t)((shift == 7 ? 0 : *byte) | (value >> width & 1u) << shift);
+        writer->bits++;
+    }
+}
+
+static void put_write(struct writer *writer, unsigned number, unsigned value)
+{
+    put(writer, number << 8 | value, 16);
+}
+
+static void put_read(struct writer *writer, unsigned number)
+{
+    put(writer, MODEL_READ << 5 | number, 8);
+}
+
+static void put_pin(struct writer *writer, unsigned pin, unsigned level)
+{
+    put(writer, MODEL_PIN << 6 | pin << 1 | level, 9);
+}
+
+static void put_clocks(struct writer *writer, uint32_t clocks)
+{
+    put(writer, (uint32_t)MODEL_CLOCKS << 16 | (clocks - 1), 19);
+}
+
+static void put_end(struct writer *writer)
+{
+    put(writer, MODEL_END, 3);
+    writer->list->size = (writer->bits + 7) / 8;
+}
+
+static struct writer begin(struct generate_list *list)
+{
+    struct writer writer = {list, 0};
+
+    return writer;
+}
+
+static bool has_room(const struct writer *writer, unsigned width, size_t bytes)
+{
+    return writer->bits + width + 3 <= 8 * bytes;
+}
+
+static void clocks_list(struct generate_list *list, unsigned events)
+{
+    struct writer writer = begin(list);
+
+    while (events-- > 0) {
+        put_clocks(&writer, 65536);
+    }
+    put_end(&writer);
+}
+
+/* Three-bit events up to the last byte, and the end. */
+static void fill_up(struct writer *writer, size_t bytes)
+{
+    while (has_room(writer, 3, bytes)) {
+        put(writer, MODEL_TIMER_ACKNOWLEDGE, 3);
+    }
+    put_end(writer);
+}
+
+/* Writes and reads of every register but the timer's control, and levels at every pin but PC2. */
+static void traffic_list(struct generate_random *random, struct generate_list *list, size_t bytes)
+{
+    struct writer writer = begin(list);
+
+    while (has_room(&writer, 16, bytes)) {
+        unsigned number = generate_below(random, MODEL_REGISTERS);
+        unsigned pin = generate_below(random, MODEL_PINS);
+
+        switch (generate_below(random, 3)) {
+        case 0:
+            put_write(&writer, number == MODEL_TCR ? MODEL_TIVR : number, generate_below(random, 256));
+            break;
+        case 1:
+            put_read(&writer, number);
+            break;
+        default:
+            put_pin(&writer, pin == MODEL_PIN_TIN ? MODEL_PIN_C : pin, generate_below(random, 2));
+            break;
+        }
+    }
+    fill_up(&writer, bytes);
+}
+
+/* A byte in through port A and a byte out through port B, each with the clocks its handshake takes. */
+static void transfer(struct writer *writer, unsigned byte)
+{
+    put_pin(writer, byte % 8, byte >> 3 & 1);
+    put_clocks(writer, 4);
+    put_pin(writer, MODEL_PIN_H1, 0);
+    put_pin(writer, MODEL_PIN_H1, 1);
+    put_read(writer, MODEL_DATA_A);
+    put_write(writer, MODEL_DATA_B, byte & 0xFF);
+    put_clocks(writer, 2);
+    put_pin(writer, MODEL_PIN_H1 + 2, 0);
+    put_pin(writer, MODEL_PIN_H1 + 2, 1);
+}
+
+#define TRANSFER_BITS (5 * 9 + 2 * 19 + 8 + 16)
+
+/* Interlocked first, pulsed from the middle on. */
+static void handshake_list(struct generate_list *list, size_t bytes)
+{
+    struct writer writer = begin(list);
+    unsigned byte = 0;
+
+    put_write(&writer, MODEL_DIRECTION_B, 0xFF);
+    put_write(&writer, MODEL_PACR, 0x30);
+    put_write(&writer, MODEL_PBCR, 0x70);
+    put_write(&writer, MODEL_PGCR, 0x30);
+    while (has_room(&writer, TRANSFER_BITS, bytes / 2)) {
+        transfer(&writer, byte++);
+    }
+    put_write(&writer, MODEL_PACR, 0x38);
+    put_write(&writer, MODEL_PBCR, 0x78);
+    while (has_room(&writer, TRANSFER_BITS, bytes)) {
+        transfer(&writer, byte++);
+    }
+    fill_up(&writer, bytes);
+}
+
+/* Thirty-two bytes: set up, a few transfers and reads, and some clocks of the timer. */
+static void short_list(struct generate_random *random, struct generate_list *list)
+{
+    struct writer writer = begin(list);
+
+    put_write(&writer, MODEL_PRELOAD_LOW, generate_below(random, 4));
+    put_write(&writer, MODEL_TCR, 0x01);
+    put_write(&writer, MODEL_PGCR, 0x30);
+    put_clocks(&writer, 1 + generate_below(random, 16));
+    while (has_room(&writer, 16, SHORT_SIZE)) {
+        switch (generate_below(random, 3)) {
+        case 0:
+            put_write(&writer, MODEL_DATA_B, generate_below(random, 256));
+            break;
+        case 1:
+            put_read(&writer, generate_below(random, MODEL_REGISTERS));
+            break;
+        default:
+            put_pin(&writer, generate_below(random, MODEL_PINS), generate_below(random, 2));
+            break;
+        }
+    }
+    fill_up(&writer, SHORT_SIZE);
+}
+
+/* A device with the timer running on the clock from this preload. */
+static void timer_device(uint8_t *device, uint32_t preload)
+{
+    (void)pit_fresh(device, PIT_DEVICE_SIZE);
+    (void)pit_write(device, PIT_DEVICE_SIZE, MODEL_PRELOAD_HIGH, (uint8_t)(preload >> 16));
+    (void)pit_write(device, PIT_DEVICE_SIZE, MODEL_PRELOAD_MID, (uint8_t)(preload >> 8));
+    (void)pit_write(device, PIT_DEVICE_SIZE, MODEL_PRELOAD_LOW, (uint8_t)preload);
+    (void)pit_write(device, PIT_DEVICE_SIZE, MODEL_TCR, 0x01);
+}
+
+static void begin_work(const char *name, const char *what, double target)
+{
+    work.name = name;
+    work.what = what;
+    work.target = target;
+    work.model_portion = 1;
+    work.lists = 1;
+    (void)pit_fresh(work.device, PIT_DEVICE_SIZE);
+}
+
+/* ---- Time ---- */
+
+static double now(void)
+{
+    struct timespec time;
+
+    clock_gettime(CLOCK_MONOTONIC, &time);
+    return (double)time.tv_sec + (double)time.tv_nsec * 1e-9;
+}
+
+static uint32_t library_play(const uint8_t *handed, const struct generate_list *list, uint8_t *device,
+                             uint64_t *totals)
+{
+    memcpy(device, handed, PIT_DEVICE_SIZE);
+    return pit_play(device, PIT_DEVICE_SIZE, list->bytes, list->size, answers, ANSWERS_ROOM, openings, OPENINGS_ROOM,
+                    totals, PIT_TOTALS);
+}
+
+static uint32_t model_play_bytes(const uint8_t *handed, const struct generate_list *list, uint8_t *device,
+                                 struct model_totals *totals)
+{
+    struct model_device model = model_from_bytes(handed);
+    unsigned refusal = model_play(&model, list->bytes, list->size, answers, ANSWERS_ROOM, openings, OPENINGS_ROOM,
+                                  totals);
+
+    model_to_bytes(&model, device);
+    return refusal;
+}
+
+static void play_with_library(void)
+{
+    uint8_t device[PIT_DEVICE_SIZE];
+    uint64_t totals[PIT_TOTALS];
+    unsigned number;
+
+    for (number = 0; number < work.lists; number++) {
+        (void)library_play(work.device, &work.list[number], device, totals);
+    }
+}
+
+static void play_with_model(void)
+{
+    const struct generate_list *list = work.model_portion < 1 ? &work.part : work.list;
+    uint8_t device[MODEL_DEVICE_SIZE];
+    struct model_totals totals;
+    unsigned number;
+
+    for (number = 0; number < work.lists; number++) {
+        (void)model_play_bytes(work.device, &list[number], device, &totals);
+    }
+}
+
+/* The best time of one go, over rounds of as many goes as fill a round's time. */
+struct timing {
+    void (*play)(void);
+    unsigned goes;
+    double best;
+};
+
+static void time_round(struct timing *timing)
+{
+    double begun = now();
+    double each;
+    unsigned go;
+
+    for (go = 0; go < timing->goes; go++) {
+        timing->play();
+    }
+    each = (now() - begun) / timing->goes;
+    timing->best = each < timing->best ? each : timing->best;
+}
+
+static struct timing begin_timing(void (*play)(void))
+{
+    struct timing timing = {play, 1, 1e9};
+
+    time_round(&timing);
+    if (timing.best < ROUND_SECONDS) {
+        timing.goes = 1 + (unsigned)(ROUND_SECONDS / (timing.best + 1e-9));
+    }
+    return timing;
+}
+
+/* ---- The table ---- */
+
+static void same_results(void)
+{
+    const struct generate_list *list = work.model_portion < 1 ? &work.part : work.list;
+    unsigned number;
+
+    for (number = 0; number < work.lists; number++) {
+        uint8_t library_device[PIT_DEVICE_SIZE];
+        uint8_t model_device[PIT_DEVICE_SIZE];
+        uint64_t library[PIT_TOTALS];
+        struct model_totals model;
+        uint32_t library_refusal = library_play(work.device, &list[number], library_device, library);
+        uint32_t model_refusal = model_play_bytes(work.device, &list[number], model_device, &model);
+
+        if (library_refusal != 0 || model_refusal != 0 || library[PIT_ANSWERS] != model.answers ||
+            library[PIT_OPENINGS] != model.openings || library[PIT_CLOCKS] != model.clocks ||
+            memcmp(library_device, model_device, PIT_DEVICE_SIZE) != 0) {
+            printf("%s: library and model differ\n", work.name);
+            failures++;
+        }
+    }
+}
+
+/* Rounds of the library and of the model take turns, so that both meet the same load of the machine. */
+static void print_row(void)
+{
+    struct timing of_library = begin_timing(play_with_library);
+    struct timing of_model = begin_timing(play_with_model);
+    double library;
+    double model;
+    unsigned round;
+    bool met;
+
+    same_results();
+    for (round = 0; round < ROUNDS; round++) {
+        time_round(&of_library);
+        time_round(&of_model);
+    }
+    library = of_library.best * 1e6;
+    model = of_model.best * 1e6 / work.model_portion;
+    met = model / library >= work.target;
+    printf("%-3s %-64s %14.1f %12.1f %12.2f %8.2f  %s\n", work.name, work.what, model, library, model / library,
+           work.target, met ? "met" : "MISSED");
+    failures += !met;
+}
+
+static void table_of_clocks(void)
+{
+    begin_work("a", "6,898 clocks events of 65,536; model: 64 of them, scaled", 1000);
+    timer_device(work.device, 0x10000); /* 215 openings */
+    clocks_list(&work.list[0], CLOCKS_EVENTS_MOST);
+    clocks_list(&work.part, 64);
+    work.model_portion = 64.0 / CLOCKS_EVENTS_MOST;
+    print_row();
+    begin_work("b1", "8,192 openings at preload 1 (8 clocks events)", 2);
+    timer_device(work.device, 1);
+    clocks_list(&work.list[0], 8);
+    print_row();
+    begin_work("b2", "8,192 openings at preload 255 (1,024 clocks events)", 100);
+    timer_device(work.device, 255);
+    clocks_list(&work.list[0], 1024);
+    print_row();
+}
+
+static void table_of_traffic(void)
+{
+    struct generate_random random = generate_seeded(68230, 0);
+    unsigned number;
+
+    begin_work("c", "register and pin traffic, 16,384 bytes", 1 / 1.5);
+    traffic_list(&random, &work.list[0], MODEL_LIST_MOST);
+    print_row();
+    begin_work("d", "handshakes, interlocked and pulsed, in and out, 16,384 bytes", 1 / 1.5);
+    handshake_list(&work.list[0], MODEL_LIST_MOST);
+    print_row();
+    begin_work("e", "256 lists of 32 bytes, a fresh device each", 1 / 1.5);
+    work.lists = SHORT_LISTS;
+    for (number = 0; number < SHORT_LISTS; number++) {
+        short_list(&random, &work.list[number]);
+    }
+    print_row();
+}
+
+static int print_table(void)
+{
+    printf("%-68s %14s %12s %12s %8s\n", "", "model us", "library us", "model/lib", "at least");
+    table_of_clocks();
+    table_of_traffic();
+    return failures != 0;
+}
+
+/* ---- Growth ---- */
+
+static void print_growth(const char *unit, double units)
+{
+    struct timing timing = begin_timing(play_with_library);
+    double library;
+    unsigned round;
+
+    for (round = 0; round < ROUNDS; round++) {
+        time_round(&timing);
+    }
+    library = timing.best;
+    printf("%12.0f %-10s %12.1f us %10.2f ns each\n", units, unit, library * 1e6, library * 1e9 / units);
+}
+
+static int print_all_growth(void)
+{
+    struct generate_random random = generate_seeded(68230, 0);
+    unsigned part;
+
+    for (part = 1; part <= 16; part *= 2) {
+        begin_work("events", "", 0);
+        traffic_list(&random, &work.list[0], MODEL_LIST_MOST / 16 * part);
+        print_growth("list bytes", (double)work.list[0].size);
+    }
+    for (part = 1; part <= 8; part *= 2) {
+        begin_work("openings", "", 0);
+        timer_device(work.device, 1);
+        clocks_list(&work.list[0], part);
+        print_growth("openings", 1024.0 * part);
+    }
+    for (part = 1; part <= 16; part *= 2) {
+        begin_work("clocks", "", 0);
+        timer_device(work.device, 0xFFFFFF);
+        clocks_list(&work.list[0], CLOCKS_EVENTS_MOST * part / 16);
+        print_growth("clocks", 65536.0 * (CLOCKS_EVENTS_MOST * part / 16));
+    }
+    return 0;
+}
+
+int main(int argument_count, char **arguments)
+{
+    if (argument_count == 2 && strcmp(arguments[1], "growth") == 0) {
+        return print_all_growth();
+    }
+    if (argument_count != 1) {
+        fprintf(stderr, "usage: bench [growth]\n");
+        return 2;
+    }
+    return print_table();
+}

@@ -1,0 +1,849 @@
+/* Compares the library behind pit.h with the model.
+ *
+ *   compare COUNT SEED [--first N]   COUNT lists and as many devices, numbered from N (0 if not said)
+ *   compare --long                   a few devices over hundreds of millions of clocks
+ *   compare --lists FILE...          lists from files: lines `D` and a device in hex (fresh if none), `L` and
+ *                                    a list in hex, `#` and a remark
+ *
+ * After every event of a well-formed list, played by the single calls, everything that can be seen of the
+ * device must be equal; whole lists, well-formed and damaged, must be equal through pit_play, with what was
+ * lent past the used part. Stops at the first difference with exit 1. */
+#include "generate.h"
+#include "pit.h"
+
+#include <inttypes.h>
+#include <stdarg.h>
+#include <stdio.h>
+#include <stdlib.h>
+#include <string.h>
+
+#define ANSWERS_ROOM 90112u /* a list of acknowledges alone has 87,380 answer bytes */
+#define OPENINGS_ROOM 65536u
+#define GUARD 32u
+#define NO_EVENT SIZE_MAX
+
+/* What is being compared, for the report. */
+static struct {
+    bool numbered;
+    uint64_t seed;
+    uint64_t number;
+    const char *part;
+    const uint8_t *device;
+    const struct generate_list *list;
+    size_t event_number;
+    size_t event_place;
+    struct model_event event;
+} trial;
+
+static struct {
+    uint64_t lists;
+    uint64_t devices;
+    uint64_t invalid_devices;
+    uint64_t events;
+    uint64_t clocks;
+    uint64_t openings;
+    uint64_t plays;
+    uint64_t refusals[9];
+} counts;
+
+/* ---- Names ---- */
+
+static const char *const register_names[MODEL_REGISTERS] = {
+    "PGCR",   "PSRR",        "direction A",  "direction B", "direction C", "PIVR",       "PACR",      "PBCR",
+    "data A", "data B",      "alternate A",  "alternate B", "data C",      "PSR",        "null",      "null",
+    "TCR",    "TIVR",        "null",         "preload high", "preload mid", "preload low", "null",      "count high",
+    "count mid", "count low", "TSR",         "null",        "null",        "null",       "null",      "null"};
+
+static const char *const port_byte_names[13] = {
+    "direction",      "control",  "final latch", "initial latch", "oldest input byte", "second input byte",
+    "bytes held",     "last byte read", "H2 wait", "H2 pulse",    "H2 asserted",       "H1 edge flag",
+    "H2 edge flag"};
+
+static const char *const other_byte_names[23] = {
+    "direction C",  "latch C",    "TCR",        "TIVR",       "preload 0",  "preload 1",  "preload 2",
+    "preload 3",    "count 0",    "count 1",    "count 2",    "count 3",    "prescaler",  "ZDS",
+    "square wave is high", "a load is due", "outside PA", "outside PB", "outside PC", "outside H1",
+    "outside H2",   "outside H3", "outside H4"};
+
+static void print_byte_name(size_t place)
+{
+    static const char *const first[3] = {"PGCR", "PSRR", "PIVR"};
+
+    if (place < 3) {
+        printf("%s", first[place]);
+    } else if (place < 29) {
+        printf("port %c %s", place < 16 ? 'A' : 'B', port_byte_names[(place - 3) % 13]);
+    } else {
+        printf("%s", other_byte_names[place - 29]);
+    }
+}
+
+static void print_event(const struct model_event *event)
+{
+    switch (event->kind) {
+    case MODEL_WRITE:
+        printf("write %u (%s) %02X", event->number, register_names[event->number], event->value);
+        break;
+    case MODEL_READ:
+        printf("read %u (%s)", event->number, register_names[event->number]);
+        break;
+    case MODEL_PORT_ACKNOWLEDGE:
+        printf("port acknowledge");
+        break;
+    case MODEL_TIMER_ACKNOWLEDGE:
+        printf("timer acknowledge");
+        break;
+    case MODEL_PIN:
+        printf("pin %u level %u", event->number, event->value);
+        break;
+    case MODEL_CLOCKS:
+        printf("%" PRIu32 " clocks", event->clocks);
+        break;
+    case MODEL_RESET:
+        printf("reset");
+        break;
+    default:
+        printf("end");
+        break;
+    }
+}
+
+static void print_hex(const char *mark, const uint8_t *bytes, size_t size)
+{
+    size_t place;
+
+    printf("%s", mark);
+    for (place = 0; place < size; place++) {
+        printf(" %02X", bytes[place]);
+    }
+    printf("\n");
+}
+
+/* ---- The report of a difference ---- */
+
+static void begin_report(const char *format, ...)
+{
+    va_list arguments;
+
+    printf("difference: ");
+    va_start(arguments, format);
+    vprintf(format, arguments);
+    va_end(arguments);
+    printf("\n");
+}
+
+static void end_report(void)
+{
+    if (trial.numbered) {
+        printf("seed %" PRIu64 ", number %" PRIu64 " (again: tests/compare 1 %" PRIu64 " --first %" PRIu64 ")\n",
+               trial.seed, trial.number, trial.seed, trial.number);
+    }
+    printf("part: %s\n", trial.part);
+    if (trial.event_number != NO_EVENT) {
+        printf("event %zu at bit %zu: ", trial.event_number, trial.event_place);
+        print_event(&trial.event);
+        printf("\n");
+    }
+    if (trial.device != NULL) {
+        print_hex("D", trial.device, PIT_DEVICE_SIZE);
+    }
+    if (trial.list != NULL) {
+        print_hex("L", trial.list->bytes, trial.list->size);
+    }
+    exit(1);
+}
+
+static void same_number(const char *what, uint64_t library, uint64_t model)
+{
+    if (library != model) {
+        begin_report("%s: library %" PRIu64 " (%" PRIX64 " hex), model %" PRIu64 " (%" PRIX64 " hex)", what, library,
+                     library, model, model);
+        end_report();
+    }
+}
+
+static void same_bytes(const char *what, const uint8_t *library, const uint8_t *model, size_t size)
+{
+    size_t place;
+
+    if (memcmp(library, model, size) == 0) {
+        return;
+    }
+    for (place = 0; library[place] == model[place]; place++) {
+    }
+    begin_report("%s, byte %zu: library %02X, model %02X", what, place, library[place], model[place]);
+    end_report();
+}
+
+static void same_openings(const char *what, const uint32_t *library, const uint32_t *model, size_t size)
+{
+    size_t place;
+
+    for (place = 0; place < size; place++) {
+        if (library[place] != model[place]) {
+            begin_report("%s, entry %zu: library %" PRIu32 ", model %" PRIu32, what, place, library[place],
+                         model[place]);
+            end_report();
+        }
+    }
+}
+
+static void same_device_bytes(const char *when, const uint8_t *library, const uint8_t *model)
+{
+    size_t place;
+
+    if (memcmp(library, model, PIT_DEVICE_SIZE) == 0) {
+        return;
+    }
+    begin_report("the device %s", when);
+    for (place = 0; place < PIT_DEVICE_SIZE; place++) {
+        if (library[place] != model[place]) {
+            printf("  byte %zu, ", place);
+            print_byte_name(place);
+            printf(": library %02X, model %02X\n", library[place], model[place]);
+        }
+    }
+    print_hex("  library", library, PIT_DEVICE_SIZE);
+    print_hex("  model  ", model, PIT_DEVICE_SIZE);
+    end_report();
+}
+
+static void same_device(const char *when, const uint8_t *library, const struct model_device *model)
+{
+    uint8_t expected[PIT_DEVICE_SIZE];
+
+    model_to_bytes(model, expected);
+    same_device_bytes(when, library, expected);
+}
+
+/* ---- What can be seen of a device ---- */
+
+static void same_levels(const uint8_t *device, const struct model_device *model)
+{
+    uint32_t expected = 0;
+    unsigned pin;
+
+    for (pin = 0; pin < MODEL_PINS; pin++) {
+        expected |= (uint32_t)model_level(model, pin) << pin;
+    }
+    same_number("pin levels", pit_levels(device, PIT_DEVICE_SIZE), expected);
+}
+
+static void same_device_after_read(unsigned number, const uint8_t *library, const struct model_device *model)
+{
+    uint8_t expected[PIT_DEVICE_SIZE];
+
+    model_to_bytes(model, expected);
+    if (memcmp(library, expected, PIT_DEVICE_SIZE) != 0) {
+        printf("reading %u (%s) leaves another device\n", number, register_names[number]);
+        same_device_bytes("after a read", library, expected);
+    }
+}
+
+static void same_reads(const uint8_t *device, const struct model_device *model)
+{
+    uint8_t number;
+
+    for (number = 0; number < MODEL_REGISTERS; number++) {
+        uint8_t library_copy[PIT_DEVICE_SIZE];
+        struct model_device model_copy = *model;
+        uint32_t found;
+        uint8_t expected;
+
+        memcpy(library_copy, device, PIT_DEVICE_SIZE);
+        found = pit_read(library_copy, PIT_DEVICE_SIZE, number);
+        expected = model_read(&model_copy, number);
+        if (found != expected) {
+            begin_report("reading %u (%s): library %02" PRIX32 ", model %02X", number, register_names[number], found,
+                         expected);
+            end_report();
+        }
+        same_device_after_read(number, library_copy, &model_copy);
+    }
+}
+
+static void same_acknowledges(const uint8_t *device, const struct model_device *model)
+{
+    same_number("port acknowledge", pit_port_acknowledge(device, PIT_DEVICE_SIZE), model_port_acknowledge(model));
+    same_number("timer acknowledge", pit_timer_acknowledge(device, PIT_DEVICE_SIZE), model_timer_acknowledge(model));
+}
+
+static void same_view(const uint8_t *device, const struct model_device *model)
+{
+    uint8_t before[PIT_DEVICE_SIZE];
+
+    memcpy(before, device, PIT_DEVICE_SIZE);
+    same_levels(device, model);
+    same_reads(device, model);
+    same_acknowledges(device, model);
+    same_number("validity after an event", pit_valid(device, PIT_DEVICE_SIZE), 1);
+    same_number("validity of the model after an event", 1, model_valid(model));
+    same_device_bytes("after it was only looked at", device, before);
+}
+
+/* ---- Single events ---- */
+
+static uint32_t library_row[OPENINGS_ROOM + GUARD];
+static uint32_t model_row[OPENINGS_ROOM + GUARD];
+
+static uint32_t opening_filling(size_t place)
+{
+    return 0x5A5A0000u + (uint32_t)place * 3u;
+}
+
+static void fill_openings(uint32_t *library, uint32_t *model, size_t size)
+{
+    size_t place;
+
+    for (place = 0; place < size; place++) {
+        library[place] = opening_filling(place);
+    }
+    memcpy(model, library, size * sizeof *model);
+}
+
+/* Now and then the row is shorter than the openings; they are counted all the same. */
+static uint32_t clocks_both(uint8_t *device, struct model_device *model, uint32_t clocks, uint32_t passed,
+                            size_t room)
+{
+    uint32_t opened = 0;
+    uint32_t number;
+
+    fill_openings(library_row, model_row, room + GUARD);
+    for (number = 0; number < clocks; number++) {
+        if (model_clock(model)) {
+            if (opened < room) {
+                model_row[opened] = passed + number + 1;
+            }
+            opened++;
+        }
+    }
+    same_number("openings of a clocks call", pit_clocks(device, PIT_DEVICE_SIZE, clocks, passed, library_row, room),
+                opened);
+    same_openings("opening numbers of a clocks call", library_row, model_row, room + GUARD);
+    return opened;
+}
+
+static void event_both(uint8_t *device, struct model_device *model, const struct model_event *event, uint32_t passed)
+{
+    uint8_t number = (uint8_t)event->number;
+    uint8_t value = (uint8_t)event->value;
+
+    switch (event->kind) {
+    case MODEL_WRITE:
+        same_number("answer of a write", pit_write(device, PIT_DEVICE_SIZE, number, value), 0);
+        model_write(model, number, value);
+        break;
+    case MODEL_READ:
+        same_number("byte read", pit_read(device, PIT_DEVICE_SIZE, number), model_read(model, number));
+        break;
+    case MODEL_PIN:
+        same_number("opening of a pin event", pit_pin(device, PIT_DEVICE_SIZE, number, value),
+                    model_pin(model, number, value != 0));
+        break;
+    case MODEL_CLOCKS:
+        counts.openings += clocks_both(device, model, event->clocks, passed, passed % 5 == 1 ? 1 : 2048);
+        break;
+    case MODEL_RESET:
+        same_number("answer of a reset", pit_reset(device, PIT_DEVICE_SIZE), 0);
+        model_reset(model);
+        break;
+    default: /* acknowledges are looked at after every event */
+        break;
+    }
+}
+
+/* Plays a well-formed list event by event on a valid device. */
+static void compare_events(const uint8_t *handed, const struct generate_list *list)
+{
+    uint8_t device[PIT_DEVICE_SIZE];
+    struct model_device model = model_from_bytes(handed);
+    uint32_t passed = 0;
+    size_t position = 0;
+    size_t after = 0;
+
+    trial.part = "single events";
+    trial.event_number = 0;
+    memcpy(device, handed, PIT_DEVICE_SIZE);
+    same_levels(device, &model);
+    same_reads(device, &model);
+    same_acknowledges(device, &model);
+    while (model_next_event(list->bytes, list->size, position, &trial.event, &after) == MODEL_ACCEPTED &&
+           trial.event.kind != MODEL_END) {
+        trial.event_place = position;
+        event_both(device, &model, &trial.event, passed);
+        if (trial.event.kind != MODEL_PORT_ACKNOWLEDGE && trial.event.kind != MODEL_TIMER_ACKNOWLEDGE) {
+            same_device("after the event", device, &model);
+            same_view(device, &model);
+        }
+        passed += trial.event.clocks;
+        position = after;
+        trial.event_number++;
+    }
+    counts.events += trial.event_number;
+    counts.clocks += passed;
+    trial.event_number = NO_EVENT;
+}
+
+/* ---- Whole lists ---- */
+
+static uint8_t library_answers[ANSWERS_ROOM + GUARD];
+static uint8_t model_answers[ANSWERS_ROOM + GUARD];
+static uint32_t library_openings[OPENINGS_ROOM + GUARD];
+static uint32_t model_openings[OPENINGS_ROOM + GUARD];
+
+static uint8_t answer_filling(size_t place)
+{
+    return (uint8_t)(0xA5u + place * 7u);
+}
+
+static void fill_answers(uint8_t *library, uint8_t *model, size_t size)
+{
+    size_t place;
+
+    for (place = 0; place < size; place++) {
+        library[place] = answer_filling(place);
+    }
+    memcpy(model, library, size);
+}
+
+/* On a refusal nothing lent may be written: the rows are as they were filled. */
+static void same_filling(const struct generate_rooms *rooms)
+{
+    size_t place;
+
+    for (place = 0; place < rooms->answers + GUARD; place++) {
+        same_number("an answer byte after a refusal", library_answers[place], answer_filling(place));
+    }
+    for (place = 0; place < rooms->openings + GUARD; place++) {
+        same_number("an opening after a refusal", library_openings[place], opening_filling(place));
+    }
+}
+
+static struct model_totals compare_play(const uint8_t *handed, const struct generate_list *list,
+                                        struct generate_rooms rooms)
+{
+    uint8_t device[PIT_DEVICE_SIZE];
+    struct model_device model = model_from_bytes(handed);
+    uint64_t totals[PIT_TOTALS] = {11, 12, 13, 14};
+    struct model_totals expected;
+    unsigned refusal;
+    uint32_t found;
+
+    memcpy(device, handed, PIT_DEVICE_SIZE);
+    fill_answers(library_answers, model_answers, rooms.answers + GUARD);
+    fill_openings(library_openings, model_openings, rooms.openings + GUARD);
+    refusal = model_play(&model, list->bytes, list->size, model_answers, rooms.answers, model_openings,
+                         rooms.openings, &expected);
+    found = pit_play(device, PIT_DEVICE_SIZE, list->bytes, list->size, library_answers, rooms.answers,
+                     library_openings, rooms.openings, totals, PIT_TOTALS);
+    same_number("refusal", found, refusal);
+    same_number("place", totals[PIT_PLACE], expected.place);
+    same_number("answer bytes", totals[PIT_ANSWERS], expected.answers);
+    same_number("number of openings", totals[PIT_OPENINGS], expected.openings);
+    same_number("clocks", totals[PIT_CLOCKS], expected.clocks);
+    same_bytes("answers", library_answers, model_answers, rooms.answers + GUARD);
+    same_openings("openings", library_openings, model_openings, rooms.openings + GUARD);
+    if (refusal == MODEL_ACCEPTED) {
+        same_device("after the list", device, &model);
+    } else {
+        same_device_bytes("after a refusal", device, handed);
+        same_filling(&rooms);
+    }
+    counts.plays++;
+    counts.refusals[refusal]++;
+    return expected;
+}
+
+/* What the list needs, as far as the rows here reach. */
+static struct generate_rooms needed_rooms(const uint8_t *handed, const struct generate_list *list)
+{
+    static uint8_t answers[ANSWERS_ROOM];
+    static uint32_t openings[OPENINGS_ROOM];
+    struct model_device model = model_from_bytes(handed);
+    struct generate_rooms rooms;
+    struct model_totals totals;
+
+    (void)model_play(&model, list->bytes, list->size, answers, ANSWERS_ROOM, openings, OPENINGS_ROOM, &totals);
+    rooms.answers = (size_t)totals.answers;
+    rooms.openings = (size_t)totals.openings;
+    return rooms;
+}
+
+static struct generate_rooms within_reach(struct generate_rooms rooms)
+{
+    rooms.answers = rooms.answers < ANSWERS_ROOM ? rooms.answers : ANSWERS_ROOM;
+    rooms.openings = rooms.openings < OPENINGS_ROOM ? rooms.openings : OPENINGS_ROOM;
+    return rooms;
+}
+
+static void compare_list(struct generate_random *random, const char *part, const uint8_t *device,
+                         const struct generate_list *list)
+{
+    struct generate_rooms needed;
+
+    trial.part = part;
+    trial.device = device;
+    trial.list = list;
+    needed = needed_rooms(device, list);
+    (void)compare_play(device, list, needed);
+    (void)compare_play(device, list, within_reach(generate_rooms(random, needed.answers, needed.openings)));
+}
+
+/* ---- Generated trials ---- */
+
+static void compare_device(const uint8_t *device)
+{
+    struct model_device model = model_from_bytes(device);
+    bool valid = model_valid(&model);
+
+    trial.part = "validity";
+    trial.device = device;
+    trial.list = NULL;
+    same_number("validity", pit_valid(device, PIT_DEVICE_SIZE), valid);
+    counts.devices++;
+    counts.invalid_devices += !valid;
+}
+
+/* The generator puts valid devices together from the words of number 8, apart from the model's judgement. */
+static void compare_valid_device(const uint8_t *device)
+{
+    struct model_device model = model_from_bytes(device);
+
+    trial.part = "a device that is to be valid";
+    trial.device = device;
+    same_number("validity", pit_valid(device, PIT_DEVICE_SIZE), 1);
+    same_number("validity in the model", 1, model_valid(&model));
+}
+
+static void compare_number(uint64_t seed, uint64_t number)
+{
+    static struct generate_list list;
+    static struct generate_list damaged;
+    uint8_t device[PIT_DEVICE_SIZE];
+    uint8_t other[PIT_DEVICE_SIZE];
+    struct generate_random random = generate_seeded(seed, number);
+
+    trial.numbered = true;
+    trial.seed = seed;
+    trial.number = number;
+    generate_valid_device(&random, device);
+    if (generate_below(&random, 1024) == 0) {
+        generate_longest_list(&random, &list);
+    } else {
+        generate_list(&random, device, &list);
+    }
+    trial.list = &list;
+    compare_valid_device(device);
+    compare_events(device, &list);
+    compare_list(&random, "a well-formed list", device, &list);
+    generate_damaged_list(&random, &list, &damaged);
+    compare_list(&random, "a damaged list", device, &damaged);
+    generate_any_device(&random, other);
+    compare_device(other);
+    compare_list(&random, "a device of any kind", other, generate_below(&random, 2) == 0 ? &list : &damaged);
+    counts.lists++;
+}
+
+/* ---- Calls with wrong sizes and numbers ---- */
+
+/* Every call answers PIT_WRONG_SIZE and writes nothing. */
+static void wrong_sizes(size_t size)
+{
+    struct generate_list end = {{0xE0}, 1};
+    struct model_device fresh = model_fresh();
+    uint8_t device[PIT_DEVICE_SIZE];
+    uint64_t totals[PIT_TOTALS] = {1, 2, 3, 4};
+
+    model_to_bytes(&fresh, device);
+    same_number("fresh, wrong size", pit_fresh(device, size), PIT_WRONG_SIZE);
+    same_number("valid, wrong size", pit_valid(device, size), PIT_WRONG_SIZE);
+    same_number("write, wrong size", pit_write(device, size, MODEL_TIVR, 0x33), PIT_WRONG_SIZE);
+    same_number("read, wrong size", pit_read(device, size, MODEL_TIVR), PIT_WRONG_SIZE);
+    same_number("pin, wrong size", pit_pin(device, size, 0, 0), PIT_WRONG_SIZE);
+    same_number("clocks, wrong size", pit_clocks(device, size, 1, 0, library_row, 1), PIT_WRONG_SIZE);
+    same_number("reset, wrong size", pit_reset(device, size), PIT_WRONG_SIZE);
+    same_number("port acknowledge, wrong size", pit_port_acknowledge(device, size), PIT_WRONG_SIZE);
+    same_number("timer acknowledge, wrong size", pit_timer_acknowledge(device, size), PIT_WRONG_SIZE);
+    same_number("levels, wrong size", pit_levels(device, size), PIT_WRONG_SIZE);
+    same_number("play, wrong device size",
+                pit_play(device, size, end.bytes, end.size, library_answers, 0, library_openings, 0, totals,
+                         PIT_TOTALS),
+                PIT_WRONG_SIZE);
+    same_device("after calls with a wrong size", device, &fresh);
+    same_number("totals after a wrong size", totals[0] + 10 * totals[1] + 100 * totals[2] + 1000 * totals[3], 4321);
+}
+
+static void wrong_totals(size_t totals_count)
+{
+    struct generate_list list = {{0x11, 0x33, 0xE0}, 3}; /* write TIVR 33, end */
+    struct model_device fresh = model_fresh();
+    uint8_t device[PIT_DEVICE_SIZE];
+    uint64_t totals[PIT_TOTALS + 1] = {1, 2, 3, 4, 5};
+
+    model_to_bytes(&fresh, device);
+    same_number("play, wrong totals count",
+                pit_play(device, PIT_DEVICE_SIZE, list.bytes, list.size, library_answers, 0, library_openings, 0,
+                         totals, totals_count),
+                PIT_WRONG_SIZE);
+    same_device("after a play with a wrong totals count", device, &fresh);
+    same_number("totals after a wrong totals count",
+                totals[0] + 10 * totals[1] + 100 * totals[2] + 1000 * totals[3] + 10000 * totals[4], 54321);
+}
+
+/* pit.h: a register over 31 and a pin over 27 are none; a level other than 0 is 1. */
+static void outlying_numbers(void)
+{
+    struct model_device model = model_fresh();
+    uint8_t device[PIT_DEVICE_SIZE];
+    unsigned number;
+
+    memset(device, 0x77, sizeof device);
+    same_number("fresh", pit_fresh(device, PIT_DEVICE_SIZE), 0);
+    same_device("fresh", device, &model);
+    same_view(device, &model);
+    for (number = 32; number < 256; number++) {
+        same_number("write over 31", pit_write(device, PIT_DEVICE_SIZE, (uint8_t)number, 0xFF), 0);
+        same_number("read over 31", pit_read(device, PIT_DEVICE_SIZE, (uint8_t)number), 0);
+    }
+    for (number = MODEL_PINS; number < 256; number++) {
+        same_number("pin over 27", pit_pin(device, PIT_DEVICE_SIZE, (uint8_t)number, number & 1), 0);
+    }
+    same_device("after registers and pins that are none", device, &model);
+    (void)pit_pin(device, PIT_DEVICE_SIZE, 3, 0);
+    (void)pit_pin(device, PIT_DEVICE_SIZE, 3, 0x80);
+    same_device("after level 80", device, &model);
+    same_number("no clocks", pit_clocks(device, PIT_DEVICE_SIZE, 0, 7, library_row, 0), 0);
+    same_device("after no clocks", device, &model);
+}
+
+/* pit.h: "Clock numbers are taken modulo 2^32." */
+static void clock_numbers_wrap(void)
+{
+    struct model_device model = model_fresh();
+    uint8_t device[PIT_DEVICE_SIZE];
+
+    model_write(&model, MODEL_PRELOAD_LOW, 2);
+    model_write(&model, MODEL_TCR, 1);
+    model_to_bytes(&model, device);
+    (void)clocks_both(device, &model, 1000, 0xFFFFFF00u, 16);
+    same_device("after clocks past 2^32", device, &model);
+    (void)clocks_both(device, &model, 300000, 5, 40);
+    same_device("after 300,000 clocks", device, &model);
+}
+
+static void compare_outlying(void)
+{
+    static const size_t sizes[] = {0, 1, 51, 53, 104};
+    size_t place;
+
+    trial.part = "sizes and numbers out of range";
+    trial.event_number = NO_EVENT;
+    for (place = 0; place < sizeof sizes / sizeof sizes[0]; place++) {
+        wrong_sizes(sizes[place]);
+    }
+    wrong_totals(0);
+    wrong_totals(3);
+    wrong_totals(5);
+    outlying_numbers();
+    clock_numbers_wrap();
+}
+
+/* ---- Long runs ---- */
+
+static struct model_device long_device(uint32_t preload, uint8_t tcr)
+{
+    struct model_device model = model_fresh();
+
+    model_write(&model, MODEL_PRELOAD_HIGH, (uint8_t)(preload >> 16));
+    model_write(&model, MODEL_PRELOAD_MID, (uint8_t)(preload >> 8));
+    model_write(&model, MODEL_PRELOAD_LOW, (uint8_t)preload);
+    model_write(&model, MODEL_PACR, 0x38);
+    model_write(&model, MODEL_PGCR, 0x10);
+    model_write(&model, MODEL_TCR, tcr);
+    return model;
+}
+
+/* The longest list: 6,898 clocks events of 65,536 clocks, 7 fill bits. */
+static void longest_clocks(struct generate_list *list)
+{
+    size_t event;
+
+    memset(list->bytes, 0, MODEL_LIST_MOST);
+    list->size = MODEL_LIST_MOST;
+    for (event = 0; event < 6899; event++) {
+        size_t position = 19 * event;
+        unsigned place;
+
+        for (place = 0; place < (event == 6898 ? 3u : 19u); place++, position++) {
+            if (event == 6898 || place != 1) {
+                list->bytes[position / 8] |= (uint8_t)(0x80u >> position % 8);
+            }
+        }
+    }
+}
+
+static void compare_long(void)
+{
+    static const uint32_t preloads[] = {0x7FFFFF, 0x10000, 0x5000};
+    static struct generate_list list;
+    uint8_t device[PIT_DEVICE_SIZE];
+    struct generate_rooms rooms = {0, 2048};
+    struct model_device model;
+    size_t place;
+
+    longest_clocks(&list);
+    trial.list = &list;
+    trial.device = device;
+    for (place = 0; place < sizeof preloads / sizeof preloads[0]; place++) {
+        trial.part = "the longest list";
+        model = long_device(preloads[place], place == 1 ? 0x11 : 0x01);
+        model_to_bytes(&model, device);
+        counts.clocks += compare_play(device, &list, rooms).clocks;
+        counts.lists++;
+    }
+    trial.part = "one clocks call of 2^29 + 1 clocks";
+    trial.list = NULL;
+    model = long_device(0xFFFFFF, 0x01);
+    model_to_bytes(&model, device);
+    counts.openings += clocks_both(device, &model, 0x20000001u, 0, 4);
+    same_device("after 2^29 + 1 clocks", device, &model);
+}
+
+/* ---- Lists from files ---- */
+
+static int hex_digit(int character)
+{
+    static const char digits[] = "0123456789ABCDEFabcdef";
+    const char *found = character == 0 ? NULL : strchr(digits, character);
+
+    if (found == NULL) {
+        return -1;
+    }
+    return (int)(found - digits) < 16 ? (int)(found - digits) : (int)(found - digits) - 6;
+}
+
+/* The bytes of a line of hex digits, spaces between bytes or not; exits where it is none. */
+static size_t hex_bytes(const char *name, const char *text, uint8_t *bytes, size_t room)
+{
+    size_t size = 0;
+
+    for (;;) {
+        while (*text == ' ' || *text == '\r' || *text == '\n' || *text == '\t') {
+            text++;
+        }
+        if (*text == 0) {
+            return size;
+        }
+        if (hex_digit(text[0]) < 0 || hex_digit(text[1]) < 0 || size == room) {
+            printf("%s: not a line of at most %zu hex bytes\n", name, room);
+            exit(2);
+        }
+        bytes[size++] = (uint8_t)(hex_digit(text[0]) << 4 | hex_digit(text[1]));
+        text += 2;
+    }
+}
+
+static void compare_given(const uint8_t *device, const struct generate_list *list)
+{
+    struct generate_random random = generate_seeded(1, counts.lists);
+    struct model_device model = model_from_bytes(device);
+    unsigned rounds;
+
+    compare_device(device);
+    trial.list = list;
+    if (model_valid(&model)) {
+        compare_events(device, list);
+    }
+    for (rounds = 0; rounds < 12; rounds++) {
+        compare_list(&random, "a given list", device, list);
+    }
+    counts.lists++;
+}
+
+static void compare_file(const char *name)
+{
+    static char line[4 * GENERATE_LIST_ROOM];
+    static struct generate_list list;
+    struct model_device fresh = model_fresh();
+    uint8_t device[PIT_DEVICE_SIZE];
+    FILE *file = fopen(name, "r");
+
+    if (file == NULL) {
+        printf("%s: cannot be read\n", name);
+        exit(2);
+    }
+    model_to_bytes(&fresh, device);
+    while (fgets(line, sizeof line, file) != NULL) {
+        if (line[0] == 'D' && hex_bytes(name, line + 1, device, sizeof device) != sizeof device) {
+            printf("%s: a device has 52 bytes\n", name);
+            exit(2);
+        }
+        if (line[0] == 'L') {
+            list.size = hex_bytes(name, line + 1, list.bytes, sizeof list.bytes);
+            compare_given(device, &list);
+        }
+    }
+    fclose(file);
+}
+
+/* ---- The program ---- */
+
+static void print_summary(void)
+{
+    unsigned refusal;
+
+    printf("no difference: %" PRIu64 " lists, %" PRIu64 " devices (%" PRIu64 " not valid), %" PRIu64
+           " single events, %" PRIu64 " clocks, %" PRIu64 " openings, %" PRIu64 " plays; refusals 0-8:",
+           counts.lists, counts.devices, counts.invalid_devices, counts.events, counts.clocks, counts.openings,
+           counts.plays);
+    for (refusal = 0; refusal < 9; refusal++) {
+        printf(" %" PRIu64, counts.refusals[refusal]);
+    }
+    printf("\n");
+}
+
+static int usage(void)
+{
+    fprintf(stderr, "usage: compare COUNT SEED [--first N] | compare --long | compare --lists FILE...\n");
+    return 2;
+}
+
+static int compare_files(int many, char **names)
+{
+    while (many-- > 0) {
+        compare_file(*names++);
+    }
+    print_summary();
+    return 0;
+}
+
+int main(int argument_count, char **arguments)
+{
+    uint64_t count;
+    uint64_t seed;
+    uint64_t first = 0;
+    uint64_t number;
+
+    trial.event_number = NO_EVENT;
+    if (argument_count >= 2 && strcmp(arguments[1], "--lists") == 0) {
+        return compare_files(argument_count - 2, arguments + 2);
+    }
+    if (argument_count == 2 && strcmp(arguments[1], "--long") == 0) {
+        compare_long();
+        print_summary();
+        return 0;
+    }
+    if (argument_count == 5 && strcmp(arguments[3], "--first") == 0) {
+        first = strtoull(arguments[4], NULL, 10);
+    } else if (argument_count != 3) {
+        return usage();
+    }
+    count = strtoull(arguments[1], NULL, 10);
+    seed = strtoull(arguments[2], NULL, 10);
+    compare_outlying();
+    for (number = first; number < first + count; number++) {
+        compare_number(seed, number);
+    }
+    print_summary();
+    return 0;
+}

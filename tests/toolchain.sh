@@ -1,0 +1,52 @@
+# Sourced by the scripts of tests/ and bench/, from the repository's root: compilers, where to build, how to
+# run. The library is x86-64 code. On another machine everything linked with it is built with Debian's cross
+# compiler, statically, and run by qemu; what uses the model alone is built for the machine itself.
+
+WARNINGS="-std=c99 -Wall -Wextra -Werror"
+BUILD=target/tests
+LIBRARY=${PIT_LIBRARY:-target/libpit.a}
+
+# need PROGRAM PACKAGE...: installs Debian packages where the program is missing.
+need() {
+    local program=$1 log
+    shift
+    command -v "$program" >/dev/null && return
+    log=$(mktemp)
+    export DEBIAN_FRONTEND=noninteractive
+    if ! { apt-get -qq update && apt-get -qq install -y --no-install-recommends "$@"; } >"$log" 2>&1; then
+        cat "$log" >&2
+        echo "cannot install: $*" >&2
+        exit 2
+    fi
+    rm -f "$log"
+}
+
+# For programs that use the model alone.
+pick_native() {
+    need gcc gcc libc6-dev
+    CC=gcc
+    LINK=
+    RUN=
+}
+
+# For programs that are linked with the library.
+pick_for_library() {
+    if [ "$(uname -m)" = x86_64 ]; then
+        pick_native
+        return
+    fi
+    need x86_64-linux-gnu-gcc gcc-x86-64-linux-gnu libc6-dev-amd64-cross
+    need qemu-x86_64 qemu-user
+    CC=x86_64-linux-gnu-gcc
+    LINK=-static
+    RUN=qemu-x86_64
+}
+
+# compile OUTPUT OPTIONS SOURCE...: one program or, with -c among the options, one object.
+compile() {
+    local output=$1 options=$2
+    shift 2
+    mkdir -p "$(dirname "$output")"
+    # shellcheck disable=SC2086
+    $CC $WARNINGS $options -Iinclude -Itests -o "$output" "$@"
+}

@@ -4,7 +4,7 @@
 
 WARNINGS="-std=c99 -Wall -Wextra -Werror"
 BUILD=target/tests
-LIBRARY=${PIT_LIBRARY:-target/libpit.a}
+LIBRARY=${PIT_LIBRARY:-target/staticlib/libpit_c.a}
 
 # need PROGRAM PACKAGE...: installs Debian packages where the program is missing.
 need() {
@@ -29,8 +29,23 @@ pick_native() {
     RUN=
 }
 
+# Builds the library, which proves it, where it is missing or older than its sources.
+library() {
+    local log
+    [ -z "${PIT_LIBRARY-}" ] || return 0
+    [ -f "$LIBRARY" ] && [ -z "$(find crates crates.txt -newer "$LIBRARY" -type f | head -n 1)" ] && return
+    log=$(mktemp)
+    if ! rt staticlib pit_c >"$log" 2>&1; then
+        tail -n 40 "$log" >&2
+        exit 2
+    fi
+    touch "$LIBRARY"
+    rm -f "$log"
+}
+
 # For programs that are linked with the library.
 pick_for_library() {
+    library
     if [ "$(uname -m)" = x86_64 ]; then
         pick_native
         return

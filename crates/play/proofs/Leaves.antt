@@ -5,10 +5,8 @@ use mathlib.Core.List.{List, [], _∷_}
 use native.Mathlib.Nat.{add-zero}
 use lib.ListN.{length}
 use lib.Seq.{sets}
-use Rattle.event.specs.declared.Answer.{Answer}
-use Rattle.event.specs.declared.Answer.the-variants.{Vector, Silent}
 use Rattle.event.specs.declared.Event.{Event}
-use Rattle.device.specs.Events.{Made, answerBytes, silently, answering}
+use Rattle.device.specs.Events.{Made, silently, answering}
 use Rattle.device.specs.declared.Device.{Device}
 use Rattle.play.specs.Run.{withDevice, answeredWith, tallied, next, Performed}
 use Rattle.play.specs.declared.tally.Tally.{Tally}
@@ -41,8 +39,3 @@ opens t e r A R R′ e′ h z p q = record {
   bytes = ap (sets A (t .answers)) (sym z) ∙ ap (λ (x : Event). sets A (t .answers) (next t x .answers)) (sym h);
   row = q ∙ ap (λ (x : Event). sets R (t .openings) (next t x .openings)) (sym h);
 }
-
--- an acknowledge answers two bytes
-pub two-bytes : (a : Answer) → length (answerBytes a) ≡ 2
-two-bytes (Vector v) = refl
-two-bytes Silent = refl

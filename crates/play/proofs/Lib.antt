@@ -1,5 +1,4 @@
 pub mod Leaves
-pub mod Needed
 pub mod Reached
 pub mod Settled
 pub mod Unique

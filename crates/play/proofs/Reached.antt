@@ -1,8 +1,7 @@
 -- How far a run has come: what is left of the list, played from here, ends as the whole list played from the start.
 use Prim.Native.Nat.{ℕ, _+_, _*_, _≤_}
 use mathlib.Core.Path.{_≡_, refl, sym, ap, _∙_}
-use mathlib.Core.Bool.{Bool, true, false}
-use mathlib.Core.List.{List, [], _∷_}
+use mathlib.Core.List.{List}
 use mathlib.Core.Logic.{_⊎_, inl, inr}
 use native.Mathlib.Nat.{add-zero, add-assoc}
 use native.Mathlib.Omega.{arith}
@@ -10,28 +9,21 @@ use denote.Enum.Declared.{tagOf}
 use lib.ListN.{length, length-append}
 use lib.Seq.{sets}
 use Rattle.event.specs.declared.Event.{Event}
-use Rattle.event.specs.declared.Event.the-variants.{Write, Read, PortAcknowledge, TimerAcknowledge, Pin, Clocks, Reset}
 use Rattle.wire.specs.Field.{bitsIn}
 use Rattle.wire.specs.Next.{nextAt, mostBits, mostClocks}
-use Rattle.wire.specs.Needs.{clocksIn}
+use Rattle.wire.specs.Needs.{clocksIn, two-answers, one-pin}
 use Rattle.wire.specs.List.{Parsed, events, refused, prepend, follow, rest, parsed}
 use Rattle.wire.specs.Rest.{rest-reads}
 use Rattle.wire.specs.Finds.{moves}
 use Rattle.wire.specs.declared.next.Next.{Next}
 use Rattle.wire.specs.declared.next.Next.the-variants.{Play, End, Refused}
 use Rattle.wire.proofs.next.Next.{the-type}
-use Rattle.timer.specs.Running.{mark}
-use Rattle.clocks.specs.Numbers.{at-most}
 use Rattle.clocks.specs.Rows.{sets-append}
-use Rattle.device.specs.Clocking.{tinOf, openings}
-use Rattle.device.specs.ManyClocks.{opens}
-use Rattle.device.specs.Events.{Made, effect, made, joined, silently, answerBytes}
-use Rattle.device.specs.Pins.{pinOf}
-use Rattle.device.specs.Interrupts.{portAcknowledge, timerAcknowledge}
-use Rattle.device.specs.declared.Device.{Device}
+use Rattle.device.specs.Events.{made, joined, silently}
+use Rattle.play.specs.Needed.{event-answers, event-openings, event-clocks}
 use Rattle.play.specs.Run.{tallied, next, Laid, ended, stopped, laidOf, Performed, Counted}
 use Rattle.play.specs.declared.tally.Tally.{Tally}
-use Rattle.play.proofs.Leaves.{same-tally, two-bytes}
+use Rattle.play.proofs.Leaves.{same-tally}
 
 -- an event in front: its effect first, and then the rest from there
 laid-prepend : (t : Tally) (A R : List ℕ) (e : Event) (P : Parsed)
@@ -47,41 +39,6 @@ laid-prepend t A R e (events es) =
     (ap (λ (n : ℕ). t .openings + n) (length-append (f .openings) (m .openings)) ∙ sym (add-assoc (t .openings) (length (f .openings)) (length (m .openings))))
     refl in
     λ i. ended (q i) (sets-append (f .answers) (m .answers) A (t .answers) i) (sets-append (f .openings) (m .openings) R (t .openings) i)
-
--- how much one event answers, opens and counts
-few-answers : (d : Device) (k : ℕ) (e : Event) → length (effect d k e .answers) ≤ 2
-unfolding effect
-few-answers d k (Write r v) = omega arith
-few-answers d k (Read r) = omega arith
-few-answers d k PortAcknowledge = omega (arith, two-bytes (portAcknowledge d))
-few-answers d k TimerAcknowledge = omega (arith, two-bytes (timerAcknowledge d))
-few-answers d k (Pin n l) = omega arith
-few-answers d k (Clocks n) = omega arith
-few-answers d k Reset = omega arith
-
-one-opening : (b : Bool) (k : ℕ) → length (mark b k []) ≤ 1
-one-opening true k = omega arith
-one-opening false k = omega arith
-
-few-openings : (d : Device) (k : ℕ) (e : Event) → length (effect d k e .openings) ≤ clocksIn e + 1
-unfolding effect
-few-openings d k (Write r v) = omega arith
-few-openings d k (Read r) = omega arith
-few-openings d k PortAcknowledge = omega arith
-few-openings d k TimerAcknowledge = omega arith
-few-openings d k (Pin n l) = omega (arith, one-opening (pinOf d n l .opened) k)
-few-openings d k (Clocks n) = rw (opens n k d) (omega (arith, at-most (tinOf d) n k (d .timer)))
-few-openings d k Reset = omega arith
-
-clocks-after : (d : Device) (k : ℕ) (e : Event) → effect d k e .clocks ≡ k + clocksIn e
-unfolding effect
-clocks-after d k (Write r v) = omega arith
-clocks-after d k (Read r) = omega arith
-clocks-after d k PortAcknowledge = omega arith
-clocks-after d k TimerAcknowledge = omega arith
-clocks-after d k (Pin n l) = omega arith
-clocks-after d k (Clocks n) = refl
-clocks-after d k Reset = omega arith
 
 pub record Reached (s A₀ R₀ : List ℕ) (t₀ : Tally) (A R : List ℕ) (t : Tally) (at : ℕ) : Type 0 where
   pub same : laidOf t A R (rest s at) ≡ laidOf t₀ A₀ R₀ (parsed s)
@@ -105,9 +62,11 @@ module _ (s A₀ R₀ : List ℕ) (t₀ : Tally) (A R : List ℕ) (t : Tally) (a
       let k = reached .counted in
       let a : t′ .answers ≡ t .answers + length (next t e .answers) = ap (λ (x : Tally). x .answers) (w .tally) in
       let o : t′ .openings ≡ t .openings + length (next t e .openings) = ap (λ (x : Tally). x .openings) (w .tally) in
-      let c : t′ .clocks ≡ t .clocks + clocksIn e = ap (λ (x : Tally). x .clocks) (w .tally) ∙ clocks-after (t .device) (t .clocks) e in
-      let fa = few-answers (t .device) (t .clocks) e in
-      let fo = few-openings (t .device) (t .clocks) e in
+      let c : t′ .clocks ≡ t .clocks + clocksIn e = ap (λ (x : Tally). x .clocks) (w .tally) ∙ event-clocks (t .device) (t .clocks) e in
+      let fa = event-answers (t .device) (t .clocks) e in
+      let fo = event-openings (t .device) (t .clocks) e in
+      let ta = two-answers e in
+      let tp = one-pin e in
       record {
         same =
             (λ i. laidOf (w .tally i) (w .bytes i) (w .row i) (rest s p))

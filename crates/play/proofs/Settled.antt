@@ -23,7 +23,7 @@ use Rattle.device.specs.declared.Device.{Device}
 use Rattle.play.specs.Play.{Result, result, refusal, acceptance, settled, settle, playOf}
 use Rattle.play.specs.Run.{startAt, tallied, Laid, ended, laidOf, acceptedTally}
 use Rattle.play.specs.declared.tally.Tally.{Tally}
-use Rattle.play.proofs.Needed.{answers-needed}
+use Rattle.play.specs.Needed.{answers-needed}
 
 -- a list that the reader takes, with what it needs
 pub record Taken (s : List ℕ) (n : Needs) : Type 0 where
@@ -74,7 +74,7 @@ module _ (s : List ℕ) (d : Device) (A O : List ℕ) where
     whole = ap (settle d A O) (sym (t .is)) ∙ valid v
 
     answers-are : length (made d 0 (t .es) .answers) ≡ n .answers
-    answers-are = answers-needed (t .es) d 0 ∙ ap (λ (x : Needs). x .answers) (sym (t .needs))
+    answers-are = answers-needed d 0 (t .es) ∙ ap (λ (x : Needs). x .answers) (sym (t .needs))
 
     -- answers need more bytes than lent
     pub few-bytes : length A < n .answers → refusal d A O 6 0 ≡ playOf s d A O

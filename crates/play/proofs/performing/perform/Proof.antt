@@ -5,8 +5,9 @@ use Rattle.event.specs.declared.Answer.{Answer}
 use Rattle.wire.specs.Needs.{clocksIn}
 use Rattle.device.specs.Events.{effect, silently, answering, answerBytes}
 use Rattle.device.specs.declared.Device.{Device}
+use Rattle.play.specs.Needed.{two-bytes}
 use Rattle.play.specs.Run.{next}
-use Rattle.play.proofs.Leaves.{quiet, told, two-bytes, opens}
+use Rattle.play.proofs.Leaves.{quiet, told, opens}
 use borrow.Author.Needs.{needs}
 use Rattle.play.proofs.performing.perform.Statement.{statement}
 use Rattle.play.proofs.performing.perform.Tie as tie

@@ -12,7 +12,7 @@ use Rattle.wire.specs.Needs.{needsOf}
 use Rattle.wire.specs.declared.list.Needs.{Needs}
 use Rattle.device.specs.Events.{made}
 use Rattle.device.specs.declared.Device.{Device}
-use Rattle.play.proofs.Needed.{openings-at-most}
+use Rattle.play.specs.Needed.{openings-at-most}
 use borrow.Author.Needs.{needs}
 use Rattle.play.proofs.playing.has_room.Statement.{statement}
 use Rattle.play.proofs.playing.has_room.Tie as tie
@@ -22,7 +22,7 @@ room : (d : Device) (es : List Event) (n : Needs) (entries : ℕ) → n ≡ need
 room d es n entries e l =
     let k : n .clocks ≡ needsOf es .clocks = ap (λ (x : Needs). x .clocks) e in
     let p : n .pins ≡ needsOf es .pins = ap (λ (x : Needs). x .pins) e in
-    sym (le-leb (length (made d 0 es .openings)) entries (omega (arith, openings-at-most es d 0)))
+    sym (le-leb (length (made d 0 es .openings)) entries (omega (arith, openings-at-most d 0 es)))
 
 cast-most : tie.Need-cast-most
 cast-most c = search needs

@@ -1,0 +1,13 @@
+pub mod Refusals
+pub mod Prefixes
+pub mod Effects
+pub mod Moments
+pub mod Touching
+pub mod Openings
+pub mod Undisturbed
+pub mod Formula
+pub mod Starting
+pub mod NeverOpens
+pub mod Again
+pub mod Lists
+pub mod Examples

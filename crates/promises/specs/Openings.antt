@@ -1,0 +1,211 @@
+-- The openings of a list: every moment at which the timer opens, each once, in order, and no other.
+use Prim.Native.Nat.{ℕ, zero, suc, _+_, _≤_}
+use mathlib.Core.Bool.{Bool, true, false, not, _&&_, _||_}
+use mathlib.Core.List.{List, [], _∷_, _++_, append-nil}
+use mathlib.Core.Path.{_≡_, refl, ap, _∙_}
+use native.Mathlib.Nat.{add-zero}
+use native.Mathlib.Numerals.{add-one}
+use native.Mathlib.Omega.{arith}
+use borrow.Author.Tests.{eqb-true, ne-eqb}
+use lib.Bits.{bitAnd}
+use lib.Dec.{eqb}
+use lib.ListN.{replicate}
+use Rattle.bits.specs.Choice.{branch}
+use Rattle.bits.specs.Field.{bitOf}
+use Rattle.event.specs.declared.Event.{Event}
+use Rattle.event.specs.declared.Event.the-variants.{Write, Read, PortAcknowledge, TimerAcknowledge, Pin, Clocks, Reset}
+use Rattle.timer.specs.Control.{sourceOf, runsOf, clockedOf}
+use Rattle.timer.specs.Counting.{scaledOf, countOf, stepOf, withPrescaler, quiet}
+use Rattle.timer.specs.Running.{clockOf as timerClock, tinOf as tinGoes, mark}
+use Rattle.timer.specs.Registers.{withZds, controlledOf, clearedOf, preloadedOf, resetOf as resetTimer}
+use Rattle.timer.specs.declared.Timer.{Timer}
+use Rattle.timer.specs.declared.Counted.{Counted}
+use Rattle.clocks.specs.Numbers.{Rising, openings-rise}
+use Rattle.clocks.specs.Spans.{mark-append}
+use Rattle.device.specs.Clocking.{tinOf, clockOf, after, openings}
+use Rattle.device.specs.Fresh.{resetOf}
+use Rattle.device.specs.Pins.{tinEvent, pinOf}
+use Rattle.device.specs.Registers.{readA, readB, readOf, writeTcr, writePreload, writeTsr, writeOf}
+use Rattle.device.specs.ManyClocks.{opens}
+use Rattle.device.specs.Events.{Made, silently, joined, effect, made}
+use Rattle.device.specs.declared.Device.{Device}
+use Rattle.device.specs.declared.Stepped.{Stepped}
+use Rattle.laws.specs.Reads.{any-read}
+use Rattle.play.specs.Needed.{event-clocks, clocks-passed}
+use Rattle.promises.specs.Prefixes.{prefix}
+use Rattle.promises.specs.Touching.{any-write, any-pin}
+use Rattle.promises.specs.Moments.{single, singly, lowersToZero, moments}
+
+-- t is left as c, and opened exactly when that lowered the counter from 1 to 0
+abbrev Says : Timer → Counted → Type 0
+Says t c = c .opened ≡ lowersToZero t (c .timer)
+
+-- a counter that is kept is not lowered
+both-never : (b : Bool) (n : ℕ) → false ≡ (b && eqb n 1 && eqb n 0)
+both-never true zero = refl
+both-never true (suc zero) = refl
+both-never true (suc (suc n)) = rw (ne-eqb (suc (suc n)) 1 (λ o. omega arith))
+both-never false n = refl
+
+kept : (t : Timer) → Says t (quiet t)
+kept t = both-never (not (t .due)) (t .count .0)
+
+-- A count opens exactly when no load is due and it lowers the counter from 1 to 0; loading 0 is none, even over a kept 1.
+pub count-opens : (t : Timer) → Says t (countOf t)
+unfolding countOf
+count-opens t =
+    branch (Says t) (t .due) _ _ (λ e. rw e)
+    (λ no.
+    branch (Says t) (eqb (t .count .0) 0) _ _ (λ e.
+    let z : eqb (t .count .0) 1 ≡ false = ne-eqb (t .count .0) 1 (λ o. omega (arith, eqb-true (t .count .0) 0 e)) in
+    rw (no, z))
+    (λ _. branch (Says t) (eqb (t .count .0) 1) _ _ (λ e. rw (no, e)) (λ e. rw (no, e))))
+
+step-opens : (t : Timer) → Says t (stepOf t)
+unfolding stepOf
+step-opens t =
+    let u = withPrescaler t (scaledOf (t .prescaler) .prescaler) in
+    branch (Says t) (scaledOf (t .prescaler) .counts) (countOf u) (quiet u) (λ _. count-opens u) (λ _. kept u)
+
+-- So does a clock, and a change of TIN's level.
+pub clock-opens : (tin : Bool) (t : Timer) → Says t (timerClock tin t)
+unfolding timerClock
+clock-opens tin t = branch (Says t) (clockedOf (t .tcr) tin) _ _ (λ _. step-opens t) (λ _. kept t)
+
+pub tin-opens : (t : Timer) (old new : Bool) → Says t (tinGoes t old new)
+unfolding tinGoes
+tin-opens t old new =
+    branch (Says t) (not (runsOf (t .tcr) new)) _ _ (λ _. kept t)
+    (λ _. branch (Says t) (old || not new) _ _ (λ _. kept t)
+    (λ _. branch (Says t) (eqb (sourceOf (t .tcr)) 2) _ _ (λ _. step-opens t)
+    (λ _. branch (Says t) (eqb (sourceOf (t .tcr)) 3) _ _ (λ _. count-opens t) (λ _. kept t))))
+
+-- an event that keeps the counter opens nothing
+write-keeps : (d : Device) (r v : ℕ) → false ≡ lowersToZero (d .timer) (writeOf d r v .timer)
+unfolding writeTcr writePreload writeTsr controlledOf preloadedOf clearedOf
+write-keeps d r v =
+    let same = kept (d .timer) in
+    any-write (λ (x : Device). false ≡ lowersToZero (d .timer) (x .timer)) d r v
+    (λ x p q. rw p same)
+    (λ _. branch (λ (x : Timer). false ≡ lowersToZero (d .timer) x) (runsOf (bitAnd v 0xf7) (tinOf d)) _ _ (λ _. same) (λ _. same))
+    same
+    (λ _ _. same)
+    (branch (λ (x : Timer). false ≡ lowersToZero (d .timer) x) (bitOf v 0) (withZds (d .timer) false) (d .timer) (λ _. same) (λ _. same))
+
+read-keeps : (d : Device) (r : ℕ) → false ≡ lowersToZero (d .timer) (readOf d r .device .timer)
+unfolding readA readB
+read-keeps d r =
+    let same = kept (d .timer) in
+    any-read (λ (x : Device). false ≡ lowersToZero (d .timer) (x .timer)) d r same (λ _. same) (λ _. same)
+
+pin-opens : (d : Device) (n : ℕ) (level : Bool) → pinOf d n level .opened ≡ lowersToZero (d .timer) (pinOf d n level .device .timer)
+unfolding tinEvent
+pin-opens d n level =
+    any-pin (λ (s : Stepped). s .opened ≡ lowersToZero (d .timer) (s .device .timer)) d n level
+    (λ x p q o. rw (p, o) (kept (d .timer)))
+    (λ _. tin-opens (d .timer) (tinOf d) level)
+
+-- n single clocks are n clocks
+one-and-more : (n : ℕ) (d : Device) (k : ℕ) → joined (effect d k (Clocks 1)) (effect (after 1 d) (k + 1) (Clocks n)) ≡ effect d k (Clocks (suc n))
+unfolding effect after openings
+one-and-more n d k =
+    let o = mark-append (clockOf d .opened) (suc k) [] (openings n (k + 1) (clockOf d .device)) in
+    let p : k + 1 ≡ suc k = add-one k in
+    let q : k + 1 + n ≡ k + suc n = omega arith in
+    λ i. record {
+      device = after n (clockOf d .device);
+      answers = [];
+      openings = (o ∙ ap (λ (x : ℕ). mark (clockOf d .opened) (suc k) (openings n x (clockOf d .device))) p) i;
+      clocks = q i;
+    }
+
+clocks-made : (n : ℕ) (d : Device) (k : ℕ) → made d k (replicate n (Clocks 1)) ≡ effect d k (Clocks n)
+unfolding made effect after openings
+clocks-made zero d k = rw add-zero
+clocks-made (suc n) d k = ap (joined (effect d k (Clocks 1))) (clocks-made n (after 1 d) (k + 1)) ∙ one-and-more n d k
+
+nothing-more : (m : Made) → joined m (silently (m .device) (m .clocks)) ≡ m
+nothing-more m = simp append-nil
+
+single-made : (e : Event) (d : Device) (k : ℕ) → made d k (single e) ≡ effect d k e
+unfolding made
+single-made (Write r v) d k = nothing-more (effect d k (Write r v))
+single-made (Read r) d k = nothing-more (effect d k (Read r))
+single-made PortAcknowledge d k = nothing-more (effect d k PortAcknowledge)
+single-made TimerAcknowledge d k = nothing-more (effect d k TimerAcknowledge)
+single-made (Pin n level) d k = nothing-more (effect d k (Pin n level))
+single-made (Clocks n) d k = clocks-made n d k
+single-made Reset d k = nothing-more (effect d k Reset)
+
+-- 'A long clocks event .. must equal single clocks.'
+pub single-clocks : (es : List Event) (d : Device) (k : ℕ) → made d k (singly es) ≡ made d k es
+unfolding made singly
+single-clocks [] d k = refl
+single-clocks (e ∷ es) d k =
+    prefix (single e) (singly es) d k
+    ∙ ap (λ (m : Made). joined m (made (m .device) (m .clocks) (singly es))) (single-made e d k)
+    ∙ ap (joined (effect d k e)) (single-clocks es (effect d k e .device) (effect d k e .clocks))
+
+-- the moments of n single clocks
+clocks-moments : (n : ℕ) (d : Device) (k : ℕ) → moments d k (replicate n (Clocks 1)) ≡ openings n k d
+unfolding moments effect after openings clockOf
+clocks-moments zero d k = refl
+clocks-moments (suc n) d k = rw (clocks-moments n (clockOf d .device) (k + 1), ← (clock-opens (tinOf d) (d .timer)), add-one)
+
+single-moments : (e : Event) (d : Device) (k : ℕ) → moments d k (single e) ≡ effect d k e .openings
+unfolding moments effect resetOf resetTimer
+single-moments (Write r v) d k = rw (← (write-keeps d r v))
+single-moments (Read r) d k = rw (← (read-keeps d r))
+single-moments PortAcknowledge d k = rw (← (kept (d .timer)))
+single-moments TimerAcknowledge d k = rw (← (kept (d .timer)))
+single-moments (Pin n level) d k = rw (← (pin-opens d n level))
+single-moments (Clocks n) d k = clocks-moments n d k
+single-moments Reset d k = rw (← (kept (d .timer)))
+
+moments-append : (xs ys : List Event) (d : Device) (k : ℕ) → moments d k (xs ++ ys) ≡ moments d k xs ++ moments (made d k xs .device) (made d k xs .clocks) ys
+unfolding moments made
+moments-append [] ys d k = refl
+moments-append (e ∷ xs) ys d k = rw (mark-append, moments-append xs ys (effect d k e .device) (effect d k e .clocks))
+
+-- The openings of a list are the moments at which it opens, followed one clock and one event at a time: each once, and no other.
+pub openings-are-moments : (es : List Event) (d : Device) (k : ℕ) → made d k es .openings ≡ moments d k (singly es)
+unfolding moments made singly
+openings-are-moments [] d k = refl
+openings-are-moments (e ∷ es) d k =
+    rw (
+      moments-append (single e) (singly es) d k,
+      single-moments e d k,
+      single-made e d k,
+      openings-are-moments es (effect d k e .device) (effect d k e .clocks),
+    )
+
+-- the numbers do not fall, the first is k or more, and none is past m
+abbrev pub Ordered : ℕ → ℕ → List ℕ → Type 0
+Ordered k m [] = Unit {0}
+Ordered k m (x ∷ l) = (k ≤ x) × (x ≤ m) × Ordered x m l
+
+from-less : (j k m : ℕ) (l : List ℕ) → j ≤ k → Ordered k m l → Ordered j m l
+from-less j k m [] h o = tt
+from-less j k m (x ∷ l) h o = (omega (arith, o .0), o .1, o .2)
+
+mark-ordered : (opened : Bool) (j k m : ℕ) (l : List ℕ) → j ≤ k → k ≤ m → Ordered k m l → Ordered j m (mark opened k l)
+mark-ordered true j k m l h i o = (h, i, o)
+mark-ordered false j k m l h i o = from-less j k m l h o
+
+moments-ordered : (es : List Event) (d : Device) (k : ℕ) → Ordered k (made d k es .clocks) (moments d k es)
+unfolding moments made
+moments-ordered [] d k = tt
+moments-ordered (e ∷ es) d k =
+    let c = effect d k e .clocks in
+    let f = effect d k e .device in
+    mark-ordered (lowersToZero (d .timer) (f .timer)) k c (made f c es .clocks) (moments f c es)
+    (omega (arith, event-clocks d k e)) (omega (arith, clocks-passed f c es)) (moments-ordered es f c)
+
+-- They stand in order, and none is past the clocks that have passed.
+pub in-order : (es : List Event) (d : Device) (k : ℕ) → Ordered k (made d k es .clocks) (made d k es .openings)
+in-order es d k = rw (openings-are-moments es d k, ← (single-clocks es d k)) (moments-ordered (singly es) d k)
+
+-- Within a clocks event they rise: no clock opens twice.
+pub clocks-rise : (n : ℕ) (d : Device) (k : ℕ) → Rising k (k + n) (effect d k (Clocks n) .openings)
+unfolding effect
+clocks-rise n d k = rw (opens n k d) (openings-rise (tinOf d) n k (d .timer))

@@ -1,0 +1,1 @@
+// Theorems about whole calls, in specs/: there is no code here.

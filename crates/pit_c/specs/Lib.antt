@@ -1,0 +1,5 @@
+pub mod Layout
+pub mod Calls
+pub mod Playing
+pub mod RoundTrip
+pub mod Levels

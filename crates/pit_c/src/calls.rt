@@ -1,0 +1,186 @@
+// The functions of include/pit.h for one event each. A function takes the device out of its bytes, lets one thing happen to it
+// and puts it back; where the bytes are not as many as a device has, nothing happens.
+use crate::layout::SIZE;
+use crate::layout::device_of;
+use crate::layout::number_of;
+use crate::layout::put_device;
+use device::Device;
+use event::Answer;
+use timer::ClockNumber;
+ghost use mathlib.Core.Path.{_≡_};
+ghost use Rattle.pit_c.specs.Layout.{flagByte};
+ghost use Rattle.pit_c.specs.Calls.{answerNumber, levelsOf, done, freshCall, validAnswer, writeCall, readCall, readAnswer, pinCall, pinAnswer, clocksCall, clocksAnswer, clocksRow, resetCall, portAcknowledgeAnswer, timerAcknowledgeAnswer, levelsAnswer};
+
+// What a call answers where a size is not the one it asks for.
+pub(crate) const WRONG_SIZE: u32 = 0xffff_ffff;
+
+// What an acknowledge answers where the part does not respond.
+const SILENT: u32 = 0x100;
+
+// 1 where a condition holds, else 0.
+fn told(holds: bool) -> u32
+    ensures { λ r. ⌜ r ≡ flagByte holds ⌝ }
+{
+    if holds { 1 } else { 0 }
+}
+
+// What is answered for an acknowledge.
+fn answer_number(answer: Answer) -> u32
+    ensures { λ r. ⌜ r ≡ answerNumber answer ⌝ }
+{
+    match answer {
+        Answer::Vector(vector) => vector as u32,
+        Answer::Silent => SILENT,
+    }
+}
+
+// The levels shown at the 28 pins, bit n for pin n.
+fn levels(d: Device) -> u32
+    ensures { λ r. ⌜ r ≡ levelsOf d ⌝ }
+{
+    let handshakes = bits::packed(
+        false,
+        false,
+        false,
+        false,
+        d.level_h4(),
+        d.outside.h3,
+        d.level_h2(),
+        d.outside.h1,
+    );
+    number_of(d.pins_a(), d.pins_b(), d.pins_c(), handshakes)
+}
+
+// Makes a fresh device.
+#[no_mangle]
+pub extern "C" fn pit_fresh(device: &mut [u8]) -> u32
+    ensures answer { λ r. ⌜ r ≡ done (now (device .entry)) ⌝ }
+    ensures device { λ _. ⌜ now (device .exit) ≡ freshCall (now (device .entry)) ⌝ }
+{
+    if device.len() != SIZE {
+        return WRONG_SIZE;
+    }
+    put_device(Device::fresh(), device);
+    0
+}
+
+// Whether the device is not refused with 8.
+#[no_mangle]
+pub extern "C" fn pit_valid(device: &[u8]) -> u32
+    ensures { λ r. ⌜ r ≡ validAnswer (now (device .entry)) ⌝ }
+{
+    if device.len() != SIZE {
+        return WRONG_SIZE;
+    }
+    told(device_of(device).valid())
+}
+
+// Writes a register.
+#[no_mangle]
+pub extern "C" fn pit_write(device: &mut [u8], number: u8, value: u8) -> u32
+    ensures answer { λ r. ⌜ r ≡ done (now (device .entry)) ⌝ }
+    ensures device { λ _. ⌜ now (device .exit) ≡ writeCall (now (device .entry)) number value ⌝ }
+{
+    if device.len() != SIZE {
+        return WRONG_SIZE;
+    }
+    put_device(device_of(device).write(number, value), device);
+    0
+}
+
+// Reads a register.
+#[no_mangle]
+pub extern "C" fn pit_read(device: &mut [u8], number: u8) -> u32
+    ensures answer { λ r. ⌜ r ≡ readAnswer (now (device .entry)) number ⌝ }
+    ensures device { λ _. ⌜ now (device .exit) ≡ readCall (now (device .entry)) number ⌝ }
+{
+    if device.len() != SIZE {
+        return WRONG_SIZE;
+    }
+    let got = device_of(device).read(number);
+    let after = got.device;
+    put_device(after, device);
+    got.byte as u32
+}
+
+// An outside level comes to a pin.
+#[no_mangle]
+pub extern "C" fn pit_pin(device: &mut [u8], pin: u8, level: u8) -> u32
+    ensures answer { λ r. ⌜ r ≡ pinAnswer (now (device .entry)) pin level ⌝ }
+    ensures device { λ _. ⌜ now (device .exit) ≡ pinCall (now (device .entry)) pin level ⌝ }
+{
+    if device.len() != SIZE {
+        return WRONG_SIZE;
+    }
+    let stepped = device_of(device).pin(pin, level != 0);
+    let after = stepped.device;
+    put_device(after, device);
+    told(stepped.opened)
+}
+
+// Clocks pass, after those that passed before. The numbers of those that open go into the row, as far as it reaches.
+#[no_mangle]
+pub extern "C" fn pit_clocks(
+    device: &mut [u8],
+    clocks: u32,
+    passed: u32,
+    openings: &mut [u32],
+) -> u32
+    ensures answer { λ r. ⌜ r ≡ clocksAnswer (now (device .entry)) clocks passed ⌝ }
+    ensures device { λ _. ⌜ now (device .exit) ≡ clocksCall (now (device .entry)) clocks ⌝ }
+    ensures openings { λ _. ⌜ now (openings .exit) ≡ clocksRow (now (device .entry)) clocks passed (now (openings .entry)) ⌝ }
+{
+    if device.len() != SIZE {
+        return WRONG_SIZE;
+    }
+    let run = device_of(device).clocks(clocks, ClockNumber(passed), openings, 0);
+    let after = run.device;
+    put_device(after, device);
+    run.used as u32
+}
+
+// Resets the part.
+#[no_mangle]
+pub extern "C" fn pit_reset(device: &mut [u8]) -> u32
+    ensures answer { λ r. ⌜ r ≡ done (now (device .entry)) ⌝ }
+    ensures device { λ _. ⌜ now (device .exit) ≡ resetCall (now (device .entry)) ⌝ }
+{
+    if device.len() != SIZE {
+        return WRONG_SIZE;
+    }
+    put_device(device_of(device).reset(), device);
+    0
+}
+
+// Acknowledges a port interrupt.
+#[no_mangle]
+pub extern "C" fn pit_port_acknowledge(device: &[u8]) -> u32
+    ensures { λ r. ⌜ r ≡ portAcknowledgeAnswer (now (device .entry)) ⌝ }
+{
+    if device.len() != SIZE {
+        return WRONG_SIZE;
+    }
+    answer_number(device_of(device).port_acknowledge())
+}
+
+// Acknowledges a timer interrupt.
+#[no_mangle]
+pub extern "C" fn pit_timer_acknowledge(device: &[u8]) -> u32
+    ensures { λ r. ⌜ r ≡ timerAcknowledgeAnswer (now (device .entry)) ⌝ }
+{
+    if device.len() != SIZE {
+        return WRONG_SIZE;
+    }
+    answer_number(device_of(device).timer_acknowledge())
+}
+
+// The levels shown at the 28 pins.
+#[no_mangle]
+pub extern "C" fn pit_levels(device: &[u8]) -> u32
+    ensures { λ r. ⌜ r ≡ levelsAnswer (now (device .entry)) ⌝ }
+{
+    if device.len() != SIZE {
+        return WRONG_SIZE;
+    }
+    levels(device_of(device))
+}

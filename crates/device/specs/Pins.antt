@@ -1,4 +1,4 @@
--- What the pins show, and outside levels that come to them (01, 'Registers'; 000, 1.2.8 to 1.2.10, 2.4, 2.6 and 4.6.3).
+-- What the pins show, and outside levels that come to them (01, 'Registers'; 000, 1.2.8 to 1.2.10, 2.4, 2.6, 4.2, 4.6.3 and 4.9).
 use Prim.Native.Nat.{ℕ, _-_}
 use mathlib.Core.Bool.{Bool, true, false, not, _&&_, _||_, Bool·beq}
 use lib.Dec.{eqb, ltb, leb}

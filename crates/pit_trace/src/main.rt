@@ -129,11 +129,17 @@ fn events(list: &[u8]) {
     }
 }
 
+// Whether reading standard input fails. To be asked where it has ended: a byte that is still to come is lost.
+fn broken() -> bool {
+    let mut more = [0u8; 1];
+    libc::read(STDIN_FILENO, &mut more) < 0
+}
+
 fn main() {
     let mut list = [0u8; 16385];
     let n = io::read_full(STDIN_FILENO, &mut list);
     if n < 16385 {
-        if report::broken() {
+        if broken() {
             os::fail(b"pit-trace: standard input");
             return;
         }

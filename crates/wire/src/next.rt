@@ -1,9 +1,10 @@
 // What stands at a bit of a list: an event, the end or a refusal (01, 'The event list' and its table of refusals).
-use crate::field::byte_field;
 use crate::field::field;
 use event::Event;
 ghost use mathlib.Core.Path.{_≡_};
-ghost use Prim.Native.Nat.{_+_, _≤_, _<_};
+ghost use Prim.Native.Nat.{_+_, _≤_, _<_, _/_, _%_, _^_};
+ghost use lib.Dec.{eqb};
+ghost use Rattle.wire.specs.Head.{headAt};
 ghost use Rattle.wire.specs.Next.{kindBits, clocksBits, sizeOf, mostBits, pinOrRefusal, closeAt, eventAt, nextAt};
 
 // A list has at most so many bytes.
@@ -39,6 +40,23 @@ const LEVEL_BITS: usize = 1;
 
 const CLOCKS_BITS: usize = 16;
 
+// The head of an event, its first bits: the kind, the register or the pin, the value or the level. Clocks alone reach further.
+const HEAD_BITS: usize = 16;
+
+// How many bits of the head follow each field.
+const AFTER_KIND: u32 = (HEAD_BITS - KIND_BITS) as u32;
+
+const AFTER_REGISTER: u32 = AFTER_KIND - REGISTER_BITS as u32;
+
+const AFTER_LEVEL: u32 = AFTER_KIND - (PIN_BITS + LEVEL_BITS) as u32;
+
+// A field's bits, all set.
+const REGISTER_MASK: u32 = (1 << REGISTER_BITS) - 1;
+
+const VALUE_MASK: u32 = (1 << VALUE_BITS) - 1;
+
+const LEVEL_MASK: u32 = (1 << LEVEL_BITS) - 1;
+
 // The last pin, H4.
 const LAST_PIN: u8 = 27;
 
@@ -65,17 +83,37 @@ fn size_of(kind: u32) -> usize
     }
 }
 
-// A pin event at bit at, unless there is no such pin.
-fn pin_at(list: &[u8], at: usize, after: usize) -> Next
-    requires { ⌜ at ≤ mostBits ⌝ }
+// The register of a write or a read, or the pin of a pin event.
+fn register_or_pin(head: u32) -> u8
+    ensures { λ r. ⌜ r ≡ head / 2 ^ 8 % 2 ^ 5 ⌝ }
+{
+    ((head >> AFTER_REGISTER) & REGISTER_MASK) as u8
+}
+
+// The value of a write.
+fn value_of(head: u32) -> u8
+    ensures { λ r. ⌜ r ≡ head % 2 ^ 8 ⌝ }
+{
+    (head & VALUE_MASK) as u8
+}
+
+// The level of a pin.
+fn level_of(head: u32) -> bool
+    ensures { λ r. ⌜ r ≡ eqb (head / 2 ^ 7 % 2) 1 ⌝ }
+{
+    (head >> AFTER_LEVEL) & LEVEL_MASK == 1
+}
+
+// A pin event at bit at, head being its head, unless there is no such pin.
+fn pin_at(list: &[u8], at: usize, after: usize, head: u32) -> Next
+    requires { ⌜ head ≡ headAt (now list) at ⌝ }
     ensures { λ r. ⌜ r ≡ pinOrRefusal (now (list .entry)) at after ⌝ }
 {
-    let pin = byte_field(list, at + KIND_BITS, PIN_BITS);
+    let pin = register_or_pin(head);
     if LAST_PIN < pin {
         return Next::Refused(3, at);
     }
-    let level = byte_field(list, at + KIND_BITS + PIN_BITS, LEVEL_BITS);
-    Next::Play(Event::Pin(pin, level == 1), after)
+    Next::Play(Event::Pin(pin, level_of(head)), after)
 }
 
 // What follows the end mark: zero bits fill the last byte, and no byte follows.
@@ -93,23 +131,21 @@ fn close(list: &[u8], end: usize) -> Next
     Next::End
 }
 
-// What stands at bit at, by its kind, all of it there; after is the first bit after it.
-fn event_at(list: &[u8], at: usize, after: usize, kind: u32) -> Next
-    requires { ⌜ (at ≤ mostBits) × (after ≤ mostBits) × (kind < 8) ⌝ }
+// What stands at bit at, by its kind, all of it there; after is the first bit after it, and head its head.
+fn event_at(list: &[u8], at: usize, after: usize, kind: u32, head: u32) -> Next
+    requires { ⌜ (at ≤ mostBits) × (after ≤ mostBits) × (kind < 8) × (head ≡ headAt (now list) at) ⌝ }
     ensures { λ r. ⌜ r ≡ eventAt (now (list .entry)) at after kind ⌝ }
 {
-    let fields = at + KIND_BITS;
     match kind {
-        WRITE => {
-            let register = byte_field(list, fields, REGISTER_BITS);
-            let value = byte_field(list, fields + REGISTER_BITS, VALUE_BITS);
-            Next::Play(Event::Write(register, value), after)
-        }
-        READ => Next::Play(Event::Read(byte_field(list, fields, REGISTER_BITS)), after),
+        WRITE => Next::Play(Event::Write(register_or_pin(head), value_of(head)), after),
+        READ => Next::Play(Event::Read(register_or_pin(head)), after),
         PORT_ACKNOWLEDGE => Next::Play(Event::PortAcknowledge, after),
         TIMER_ACKNOWLEDGE => Next::Play(Event::TimerAcknowledge, after),
-        PIN => pin_at(list, at, after),
-        CLOCKS => Next::Play(Event::Clocks(field(list, fields, CLOCKS_BITS) + 1), after),
+        PIN => pin_at(list, at, after, head),
+        CLOCKS => Next::Play(
+            Event::Clocks(field(list, at + KIND_BITS, CLOCKS_BITS) + 1),
+            after,
+        ),
         RESET => Next::Play(Event::Reset, after),
         _ => close(list, after),
     }
@@ -125,10 +161,11 @@ pub fn next_event(list: &[u8], at: usize) -> Next
     if MOST_BITS < at {
         return Next::Refused(2, at);
     }
-    let kind = field(list, at, KIND_BITS);
+    let head = field(list, at, HEAD_BITS);
+    let kind = head >> AFTER_KIND;
     let after = at + size_of(kind);
     if list.len() * 8 < after {
         return Next::Refused(2, at);
     }
-    event_at(list, at, after, kind)
+    event_at(list, at, after, kind, head)
 }

@@ -5,6 +5,7 @@ use mathlib.Core.Path.{_≡_, sym, ap, _∙_}
 use Prim.Native.Nat.{ℕ, _≤_, _<_}
 use denote.Ref.{now}
 use Rattle.wire.specs.Next.{eventAt}
+use Rattle.wire.specs.Head.{head-register, head-value}
 use Rattle.wire.proofs.next.event_at.Statement.{statement}
 use Rattle.wire.proofs.next.event_at.Tie as tie
 
@@ -15,23 +16,20 @@ past-three k n0 n1 n2 n3 = omega arith
 seven : (k : ℕ) → k < 8 → 4 ≤ k → (k ≡ 4 → ⊥) → (k ≡ 5 → ⊥) → (k ≡ 6 → ⊥) → k ≡ 7
 seven k below past n4 n5 n6 = omega arith
 
-add-fields : tie.Need-add-fields
-add-fields c = search needs
+register-or-pin-requires : tie.Need-register-or-pin-requires
+register-or-pin-requires c κs = search needs
 
-byte-field-requires : tie.Need-byte-field-requires
-byte-field-requires c κs = search needs
+value-of-requires : tie.Need-value-of-requires
+value-of-requires c κs = search needs
 
-add-byte-field : tie.Need-add-byte-field
-add-byte-field c = search needs
-
-byte-field-requires-2 : tie.Need-byte-field-requires-2
-byte-field-requires-2 c κs = search needs
-
-byte-field-requires-3 : tie.Need-byte-field-requires-3
-byte-field-requires-3 c κs = search needs
+register-or-pin-requires-2 : tie.Need-register-or-pin-requires-2
+register-or-pin-requires-2 c κs = search needs
 
 pin-at-requires : tie.Need-pin-at-requires
 pin-at-requires c κs = search needs
+
+add-field : tie.Need-add-field
+add-field c = search needs
 
 field-requires : tie.Need-field-requires
 field-requires c κs = search needs
@@ -44,11 +42,18 @@ close-requires c κs = search needs
 
 returns : tie.Need-returns
 unfolding eventAt
-returns c = simp (c .before .before .match .keys1, sym (c .before .byte-field .ensures), sym (c .byte-field2 .ensures))
+returns c =
+    let k = c .before .before .before .before in
+    let register = c .before .register-or-pin .ensures ∙ head-register _ _ (k .pre .3) in
+    let value = c .value-of .ensures ∙ head-value _ _ (k .pre .3) in
+    simp (c .before .before .match .keys1, sym register, sym value)
 
 returns-2 : tie.Need-returns-2
 unfolding eventAt
-returns-2 c = simp (c .before .match .keys2, sym (c .byte-field3 .ensures))
+returns-2 c =
+    let k = c .before .before .before in
+    let register = c .register-or-pin2 .ensures ∙ head-register _ _ (k .pre .3) in
+    simp (c .before .match .keys2, sym register)
 
 returns-3 : tie.Need-returns-3
 unfolding eventAt
@@ -73,21 +78,21 @@ returns-7 c = simp (c .match .keys7)
 returns-8 : tie.Need-returns-8
 unfolding eventAt
 returns-8 c =
-    let a = c .before .before .before .args in
+    let k = c .before .before .before in
+    let a = k .args in
     let r = c .before .match .rest in
     let past = past-three (a .kind) (r .0 .0 .0 .0 .0 .0 .1) (r .0 .0 .0 .0 .0 .1) (r .0 .0 .0 .0 .1) (r .0 .0 .0 .1) in
-    c .close .ensures ∙ ap (eventAt (now (a .list)) (a .at) (a .after)) (sym (seven (a .kind) (c .before .before .before .pre .2) past (r .0 .0 .1) (r .0 .1) (r .1)))
+    c .close .ensures ∙ ap (eventAt (now (a .list)) (a .at) (a .after)) (sym (seven (a .kind) (k .pre .2) past (r .0 .0 .1) (r .0 .1) (r .1)))
 
 pub event-at-spec : {M : Type 1} → statement M
 event-at-spec =
     tie.close
     (tie.spec
-    add-fields
-    byte-field-requires
-    add-byte-field
-    byte-field-requires-2
-    byte-field-requires-3
+    register-or-pin-requires
+    value-of-requires
+    register-or-pin-requires-2
     pin-at-requires
+    add-field
     field-requires
     add-t16
     close-requires

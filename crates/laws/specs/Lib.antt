@@ -4,3 +4,6 @@ pub mod Timers
 pub mod Reads
 pub mod Stays
 pub mod Priority
+pub mod Counts
+pub mod Registers
+pub mod ModeZero

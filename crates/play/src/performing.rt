@@ -103,19 +103,26 @@ fn clocked(mut t: Tally, n: u32, row: &mut [u32]) -> Tally
     t
 }
 
-// One event.
+// One event. A write and a reset leave the device where it stands: a place of its own for each made the compiler take every device
+// to pieces.
 pub fn perform(t: Tally, event: Event, answers: &mut [u8], row: &mut [u32]) -> Tally
     requires { ⌜ Counted t mostBits × (clocksIn event ≤ mostClocks) ⌝ }
     ensures { λ r. ⌜ Performed t event r (now (answers .entry)) (now (answers .exit)) (now (row .entry)) (now (row .exit)) ⌝ }
 {
-    let device = t.device;
+    let mut device = t.device;
     match event {
-        Event::Write(register, value) => t.with_device(device.write(register, value)),
+        Event::Write(register, value) => {
+            device = device.write(register, value);
+            t.with_device(device)
+        }
         Event::Read(register) => read(t, register, answers),
         Event::PortAcknowledge => acknowledged(t, device.port_acknowledge(), answers),
         Event::TimerAcknowledge => acknowledged(t, device.timer_acknowledge(), answers),
         Event::Pin(pin, level) => pinned(t, pin, level, row),
         Event::Clocks(n) => clocked(t, n, row),
-        Event::Reset => t.with_device(device.reset()),
+        Event::Reset => {
+            device = device.reset();
+            t.with_device(device)
+        }
     }
 }

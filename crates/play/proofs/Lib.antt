@@ -1,4 +1,5 @@
 pub mod Leaves
 pub mod Reached
+pub mod FirstPass
 pub mod Settled
 pub mod Unique

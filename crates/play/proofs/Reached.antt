@@ -1,5 +1,5 @@
 -- How far a run has come: what is left of the list, played from here, ends as the whole list played from the start.
-use Prim.Native.Nat.{ℕ, _+_, _*_, _≤_}
+use Prim.Native.Nat.{ℕ, _+_, _≤_}
 use mathlib.Core.Path.{_≡_, refl, sym, ap, _∙_}
 use mathlib.Core.List.{List}
 use mathlib.Core.Logic.{_⊎_, inl, inr}
@@ -11,7 +11,7 @@ use lib.Seq.{sets}
 use Rattle.event.specs.declared.Event.{Event}
 use Rattle.wire.specs.Field.{bitsIn}
 use Rattle.wire.specs.Next.{nextAt, mostBits, mostClocks}
-use Rattle.wire.specs.Needs.{clocksIn, two-answers, one-pin}
+use Rattle.wire.specs.Needs.{clocksIn, two-answers}
 use Rattle.wire.specs.List.{Parsed, events, refused, prepend, follow, rest, parsed}
 use Rattle.wire.specs.Rest.{rest-reads}
 use Rattle.wire.specs.Finds.{moves}
@@ -21,7 +21,7 @@ use Rattle.wire.proofs.next.Next.{the-type}
 use Rattle.clocks.specs.Rows.{sets-append}
 use Rattle.device.specs.Events.{made, joined, silently}
 use Rattle.play.specs.Needed.{event-answers, event-openings, event-clocks}
-use Rattle.play.specs.Run.{tallied, next, Laid, ended, stopped, laidOf, Performed, Counted}
+use Rattle.play.specs.Run.{tallied, next, ended, laidOf, Performed, Counted}
 use Rattle.play.specs.declared.tally.Tally.{Tally}
 use Rattle.play.proofs.Leaves.{same-tally}
 
@@ -66,7 +66,6 @@ module _ (s A₀ R₀ : List ℕ) (t₀ : Tally) (A R : List ℕ) (t : Tally) (a
       let fa = event-answers (t .device) (t .clocks) e in
       let fo = event-openings (t .device) (t .clocks) e in
       let ta = two-answers e in
-      let tp = one-pin e in
       record {
         same =
             (λ i. laidOf (w .tally i) (w .bytes i) (w .row i) (rest s p))

@@ -1,55 +1,38 @@
--- From what the reader found and what a run left to what the call returns.
+-- From what the first pass found and what a run left to what the call returns.
 use Prim.Native.Nat.{ℕ, _+_, _≤_, _<_}
 use mathlib.Core.Path.{_≡_, refl, sym, ap, ap₂, _∙_}
-use mathlib.Core.Bool.{Bool, true, false}
+use mathlib.Core.Bool.{true, false}
 use mathlib.Core.List.{List, _++_}
 use native.Mathlib.Nat.{zero-add}
 use native.Mathlib.Omega.{arith}
-use lib.Dec.{ltb, leb}
 use lib.ListN.{length, drop}
 use lib.Seq.{sets, sets-eq}
-use borrow.Author.Tests.{lt-ltb, le-ltb, leb-true, leb-false}
+use borrow.Author.Tests.{lt-ltb, le-ltb}
 use Rattle.event.specs.declared.Event.{Event}
-use Rattle.wire.specs.Next.{mostBits}
 use Rattle.wire.specs.List.{Parsed, events, refused, parsed}
-use Rattle.wire.specs.Needs.{needsOf, scannedOf}
-use Rattle.wire.specs.Totals.{totals}
-use Rattle.wire.specs.declared.list.Needs.{Needs}
-use Rattle.wire.specs.declared.list.Scanned.{Scanned}
-use Rattle.wire.specs.declared.list.Scanned.the-variants.{Whole, Refused}
-use Rattle.device.specs.Events.{Made, made}
+use Rattle.device.specs.Events.{made}
 use Rattle.device.specs.Validity.{validOf}
 use Rattle.device.specs.declared.Device.{Device}
-use Rattle.play.specs.Play.{Result, result, refusal, acceptance, settled, settle, playOf}
-use Rattle.play.specs.Run.{startAt, tallied, Laid, ended, laidOf, acceptedTally}
+use Rattle.play.specs.Play.{result, refusal, acceptance, settled, settle, playOf}
+use Rattle.play.specs.Run.{startAt, tallied, ended, laidOf, acceptedTally}
+use Rattle.play.specs.Survey.{roomOf, surveyedOf}
 use Rattle.play.specs.declared.tally.Tally.{Tally}
-use Rattle.play.specs.Needed.{answers-needed}
+use Rattle.play.specs.declared.surveying.Room.{Room}
+use Rattle.play.specs.declared.surveying.Surveyed.the-variants.{Whole, Refused}
 
--- a list that the reader takes, with what it needs
-pub record Taken (s : List ℕ) (n : Needs) : Type 0 where
+-- a list that the first pass takes, with the room that it needs
+pub record Taken (s : List ℕ) (d : Device) (n : Room) : Type 0 where
   pub es : List Event
   pub is : parsed s ≡ events es
-  pub needs : n ≡ needsOf es
+  pub room : n ≡ roomOf (made d 0 es)
 
-module _ (s : List ℕ) (n : Needs) where
-  take : (P : Parsed) → parsed s ≡ P → Whole n ≡ scannedOf P → Taken s n
-  unfolding scannedOf
-  take (events es) e h = record { es = es; is = e; needs = (let x : n ≡ needsOf es = cc in x) }
+module _ (s : List ℕ) (d : Device) (n : Room) where
+  take : (P : Parsed) → parsed s ≡ P → Whole n ≡ surveyedOf d P → Taken s d n
+  take (events es) e h = record { es = es; is = e; room = (let x : n ≡ roomOf (made d 0 es) = cc in x) }
   take (refused r p) e h = absurd (let z : _≡_ {A = ℕ} 0 1 = cc in omega arith)
 
-  pub taken : Whole n ≡ scannedOf (parsed s) → Taken s n
+  pub taken : Whole n ≡ surveyedOf d (parsed s) → Taken s d n
   taken h = take (parsed s) refl h
-
-  -- what it needs, whichever way its events are named
-  pub needed : Whole n ≡ scannedOf (parsed s) → (es : List Event) → parsed s ≡ events es → n ≡ needsOf es
-  unfolding scannedOf
-  needed h es e = let x : Whole n ≡ scannedOf (events es) = h ∙ ap scannedOf e in (let y : n ≡ needsOf es = cc in y)
-
-  pub few-pins : Taken s n → n .pins ≤ mostBits
-  few-pins t =
-      let m = totals s (t .es) (t .is) in
-      let e : n .pins ≡ needsOf (t .es) .pins = ap (λ (x : Needs). x .pins) (t .needs) in
-      omega (arith, m .room .pins, m .short)
 
 module _ (s : List ℕ) (d : Device) (A O : List ℕ) where
   pub invalid : validOf d ≡ false → refusal d A O 8 0 ≡ playOf s d A O
@@ -60,21 +43,23 @@ module _ (s : List ℕ) (d : Device) (A O : List ℕ) where
   unfolding playOf
   valid h = rw h
 
-  stop : (P : Parsed) (q p : ℕ) → Refused q p ≡ scannedOf P → refusal d A O q p ≡ settle d A O P
-  unfolding scannedOf
+  stop : (P : Parsed) (q p : ℕ) → Refused q p ≡ surveyedOf d P → refusal d A O q p ≡ settle d A O P
   stop (refused q′ p′) q p h = let e : q ≡ q′ = cc in let f : p ≡ p′ = cc in ap₂ (refusal d A O) e f
   stop (events es) q p h = absurd (let z : _≡_ {A = ℕ} 0 1 = cc in omega arith)
 
-  -- the reader refuses the list
-  pub stops : validOf d ≡ true → (q p : ℕ) → Refused q p ≡ scannedOf (parsed s) → refusal d A O q p ≡ playOf s d A O
+  -- the first pass refuses the list
+  pub stops : validOf d ≡ true → (q p : ℕ) → Refused q p ≡ surveyedOf d (parsed s) → refusal d A O q p ≡ playOf s d A O
   stops v q p h = stop (parsed s) q p h ∙ valid v
 
-  module _ (v : validOf d ≡ true) (n : Needs) (t : Taken s n) where
+  module _ (v : validOf d ≡ true) (n : Room) (t : Taken s d n) where
     whole : settled d A O (made d 0 (t .es)) ≡ playOf s d A O
     whole = ap (settle d A O) (sym (t .is)) ∙ valid v
 
     answers-are : length (made d 0 (t .es) .answers) ≡ n .answers
-    answers-are = answers-needed d 0 (t .es) ∙ ap (λ (x : Needs). x .answers) (sym (t .needs))
+    answers-are = ap (λ (x : Room). x .answers) (sym (t .room))
+
+    openings-are : length (made d 0 (t .es) .openings) ≡ n .openings
+    openings-are = ap (λ (x : Room). x .openings) (sym (t .room))
 
     -- answers need more bytes than lent
     pub few-bytes : length A < n .answers → refusal d A O 6 0 ≡ playOf s d A O
@@ -83,12 +68,12 @@ module _ (s : List ℕ) (d : Device) (A O : List ℕ) where
         sym z ∙ whole
 
     -- openings outnumber the lent row
-    pub few-entries : n .answers ≤ length A → leb (length (made d 0 (t .es) .openings)) (length O) ≡ false → refusal d A O 7 0 ≡ playOf s d A O
+    pub few-entries : n .answers ≤ length A → length O < n .openings → refusal d A O 7 0 ≡ playOf s d A O
     few-entries a l =
         let z : settled d A O (made d 0 (t .es)) ≡ refusal d A O 7 0 =
         simp (
           le-ltb (length A) (length (made d 0 (t .es) .answers)) (omega (arith, answers-are)),
-          lt-ltb (length O) (length (made d 0 (t .es) .openings)) (leb-false _ _ l),
+          lt-ltb (length O) (length (made d 0 (t .es) .openings)) (omega (arith, openings-are)),
         ) in
         sym z ∙ whole
 
@@ -96,11 +81,11 @@ module _ (s : List ℕ) (d : Device) (A O : List ℕ) where
     over xs l g = sets-eq xs l 0 (rw zero-add g) ∙ ap (λ (k : ℕ). xs ++ drop k l) (zero-add (length xs))
 
     -- all fits, and the run left what the events make
-    pub accepts : n .answers ≤ length A → leb (length (made d 0 (t .es) .openings)) (length O) ≡ true → (r : Tally) (A′ O′ : List ℕ) → ended r A′ O′ ≡ laidOf (startAt d) A O (events (t .es)) → result (acceptedTally r) A′ O′ ≡ playOf s d A O
+    pub accepts : n .answers ≤ length A → n .openings ≤ length O → (r : Tally) (A′ O′ : List ℕ) → ended r A′ O′ ≡ laidOf (startAt d) A O (events (t .es)) → result (acceptedTally r) A′ O′ ≡ playOf s d A O
     accepts a l r A′ O′ w =
         let m = made d 0 (t .es) in
         let ha : length (m .answers) ≤ length A = omega (arith, answers-are) in
-        let ho : length (m .openings) ≤ length O = leb-true _ _ l in
+        let ho : length (m .openings) ≤ length O = omega (arith, openings-are) in
         let er : r ≡ tallied (startAt d) m = cc in
         let ea : A′ ≡ m .answers ++ drop (length (m .answers)) A = (let e : A′ ≡ sets A 0 (m .answers) = cc in e) ∙ over (m .answers) A ha in
         let eo : O′ ≡ m .openings ++ drop (length (m .openings)) O = (let e : O′ ≡ sets O 0 (m .openings) = cc in e) ∙ over (m .openings) O ho in

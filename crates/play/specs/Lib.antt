@@ -1,3 +1,6 @@
 pub mod Play
 pub mod Run
 pub mod Needed
+pub mod Gate
+pub mod Survey
+pub mod Following

@@ -7,13 +7,16 @@ use lib.Seq.{sets}
 use Rattle.event.specs.declared.Event.{Event}
 use Rattle.wire.specs.List.{Parsed, events, refused}
 use Rattle.wire.specs.Next.{mostBits, mostClocks}
-use Rattle.wire.specs.declared.list.Scanned.{Scanned}
-use Rattle.wire.specs.declared.list.Scanned.the-variants.{Whole, Refused}
+use Rattle.wire.specs.Needs.{clocksIn}
+use Rattle.wire.specs.declared.next.Next.{Next}
+use Rattle.wire.specs.declared.next.Next.the-variants.{Play, End, Refused}
 use Rattle.device.specs.Events.{Made, effect, made}
 use Rattle.device.specs.declared.Device.{Device}
 use Rattle.play.specs.declared.tally.Tally.{Tally}
 use Rattle.play.specs.Play.{refusedOutcome}
 use Rattle.play.specs.declared.playing.Outcome.{Outcome}
+use Rattle.play.specs.declared.surveying.Surveyed.{Surveyed}
+use Rattle.play.specs.declared.surveying.Surveyed.the-variants as surveyed
 
 -- before the first event
 abbrev pub startAt : Device → Tally
@@ -60,10 +63,22 @@ pub record Counted (t : Tally) (at : ℕ) : Type 0 where
   pub opened : t .openings ≤ t .clocks + at
   pub clocked : 19 * t .clocks ≤ mostClocks * at
 
+-- what was read, played: an event, if it is one
+abbrev pub Performs : Tally → Next → Tally → List ℕ → List ℕ → List ℕ → List ℕ → Type 0
+Performs t (Play e p) r bs bs′ os os′ = Performed t e r bs bs′ os os′
+Performs t End r bs bs′ os os′ = Unit {0}
+Performs t (Refused q p) r bs bs′ os os′ = Unit {0}
+
+-- what may be played: at most 65,536 clocks, after what a list can have counted
+abbrev pub Allowed : Tally → Next → Type 0
+Allowed t (Play e p) = Counted t mostBits × (clocksIn e ≤ mostClocks)
+Allowed t End = Unit {0}
+Allowed t (Refused q p) = Unit {0}
+
 abbrev pub acceptedTally : Tally → Outcome
 acceptedTally t = record { refusal = 0; place = 0; answers = t .answers; openings = t .openings; clocks = t .clocks; device = t .device }
 
--- a list that its reader refuses
-abbrev pub unreadOutcome : Scanned → Device → Outcome
-unreadOutcome (Whole n) d = refusedOutcome 0 0 d
-unreadOutcome (Refused r p) d = refusedOutcome r p d
+-- a list that the first pass refuses
+abbrev pub unreadOutcome : Surveyed → Device → Outcome
+unreadOutcome (surveyed.Whole n) d = refusedOutcome 0 0 d
+unreadOutcome (surveyed.Refused r p) d = refusedOutcome r p d

@@ -2,6 +2,7 @@
 mod performing;
 mod playing;
 mod running;
+mod surveying;
 mod tally;
 
 pub use playing::Outcome;

@@ -3,18 +3,16 @@ use crate::tally::Tally;
 use event::Answer;
 use event::Event;
 use timer::ClockNumber;
+use wire::Next;
 ghost use mathlib.Core.Path.{_≡_};
 ghost use mathlib.Core.List.{[], _∷_};
 ghost use Prim.Native.Nat.{_≤_};
 ghost use lib.ListN.{set};
 ghost use lib.Seq.{sets};
 ghost use Rattle.wire.specs.Next.{mostBits, mostClocks};
-ghost use Rattle.wire.specs.Needs.{clocksIn};
 ghost use Rattle.device.specs.Events.{answerBytes};
-ghost use Rattle.device.specs.Pins.{pinOf};
 ghost use Rattle.device.specs.Registers.{readOf};
-ghost use Rattle.timer.specs.Running.{mark};
-ghost use Rattle.play.specs.Run.{answeredWith, tallied, next, Counted, Performed};
+ghost use Rattle.play.specs.Run.{answeredWith, tallied, next, Counted, Allowed, Performs};
 
 // Stores a byte at a place, if there is room.
 fn put_byte(bytes: &mut [u8], at: usize, byte: u8)
@@ -103,12 +101,16 @@ fn clocked(mut t: Tally, n: u32, row: &mut [u32]) -> Tally
     t
 }
 
-// One event. A write and a reset leave the device where it stands: a place of its own for each made the compiler take every device
-// to pieces.
-pub fn perform(t: Tally, event: Event, answers: &mut [u8], row: &mut [u32]) -> Tally
-    requires { ⌜ Counted t mostBits × (clocksIn event ≤ mostClocks) ⌝ }
-    ensures { λ r. ⌜ Performed t event r (now (answers .entry)) (now (answers .exit)) (now (row .entry)) (now (row .exit)) ⌝ }
+// The event that was read, if one was. It is taken out of what was read only here, and a write and a reset leave the device where it
+// stands, a reset by a return of its own: in other forms the compiler copies events and devices in pieces that the processor then waits
+// for (docs/PERFORMANCE.md).
+pub fn perform(t: Tally, next: Next, answers: &mut [u8], row: &mut [u32]) -> Tally
+    requires { ⌜ Allowed t next ⌝ }
+    ensures { λ r. ⌜ Performs t next r (now (answers .entry)) (now (answers .exit)) (now (row .entry)) (now (row .exit)) ⌝ }
 {
+    let Next::Play(event, _) = next else {
+        return t;
+    };
     let mut device = t.device;
     match event {
         Event::Write(register, value) => {
@@ -122,7 +124,7 @@ pub fn perform(t: Tally, event: Event, answers: &mut [u8], row: &mut [u32]) -> T
         Event::Clocks(n) => clocked(t, n, row),
         Event::Reset => {
             device = device.reset();
-            t.with_device(device)
+            return t.with_device(device);
         }
     }
 }

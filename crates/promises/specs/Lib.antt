@@ -2,7 +2,6 @@ pub mod Refusals
 pub mod Prefixes
 pub mod Effects
 pub mod Moments
-pub mod Touching
 pub mod Openings
 pub mod Undisturbed
 pub mod Formula

@@ -28,7 +28,7 @@ use Rattle.device.specs.Events.{Made, effect, made}
 use Rattle.device.specs.declared.Device.{Device}
 use Rattle.device.specs.declared.Stepped.{Stepped}
 use Rattle.laws.specs.Reads.{any-read}
-use Rattle.promises.specs.Touching.{tcr-holds, any-write, any-pin}
+use Rattle.laws.specs.Touching.{tcr-holds, any-write, any-pin}
 
 -- what is written to TCR is a byte with reload, and what is written to a preload register is 0
 abbrev pub Fruitless : Event → Type 0
@@ -93,11 +93,11 @@ unfolding writeTcr writePreload writeTsr preloadedOf clearedOf lowersOf
 write-barren d r v f b =
     let t = d .timer in
     any-write (λ (x : Device). Barren (x .timer)) d r v
-    (λ x p q. rw p b)
+    (λ x _ p q. rw p b)
     (λ e. barren-tcr t v (tinOf d) (f .0 e .0) (f .0 e .1) b)
-    (record { reload = b .reload; preload = b .preload; zero = b .zero })
+    (λ _. record { reload = b .reload; preload = b .preload; zero = b .zero })
     (λ low high. record { reload = b .reload; preload = zero-byte (t .preload .0) (r - 19) v (b .preload) (f .1 low high); zero = b .zero })
-    (branch Barren (bitOf v 0) (withZds t false) t (λ _. record { reload = b .reload; preload = b .preload; zero = b .zero }) (λ _. b))
+    (λ _. branch Barren (bitOf v 0) (withZds t false) t (λ _. record { reload = b .reload; preload = b .preload; zero = b .zero }) (λ _. b))
 
 -- a barren device stays so, and nothing opens
 abbrev StaysSo : Made → Type 0

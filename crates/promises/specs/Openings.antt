@@ -33,7 +33,7 @@ use Rattle.device.specs.declared.Stepped.{Stepped}
 use Rattle.laws.specs.Reads.{any-read}
 use Rattle.play.specs.Needed.{event-clocks, clocks-passed}
 use Rattle.promises.specs.Prefixes.{prefix}
-use Rattle.promises.specs.Touching.{any-write, any-pin}
+use Rattle.laws.specs.Touching.{any-write, any-pin}
 use Rattle.promises.specs.Moments.{single, singly, lowersToZero, moments}
 
 -- t is left as c, and opened exactly when that lowered the counter from 1 to 0
@@ -86,11 +86,11 @@ unfolding writeTcr writePreload writeTsr controlledOf preloadedOf clearedOf
 write-keeps d r v =
     let same = kept (d .timer) in
     any-write (λ (x : Device). false ≡ lowersToZero (d .timer) (x .timer)) d r v
-    (λ x p q. rw p same)
+    (λ x _ p q. rw p same)
     (λ _. branch (λ (x : Timer). false ≡ lowersToZero (d .timer) x) (runsOf (bitAnd v 0xf7) (tinOf d)) _ _ (λ _. same) (λ _. same))
-    same
+    (λ _. same)
     (λ _ _. same)
-    (branch (λ (x : Timer). false ≡ lowersToZero (d .timer) x) (bitOf v 0) (withZds (d .timer) false) (d .timer) (λ _. same) (λ _. same))
+    (λ _. branch (λ (x : Timer). false ≡ lowersToZero (d .timer) x) (bitOf v 0) (withZds (d .timer) false) (d .timer) (λ _. same) (λ _. same))
 
 read-keeps : (d : Device) (r : ℕ) → false ≡ lowersToZero (d .timer) (readOf d r .device .timer)
 unfolding readA readB

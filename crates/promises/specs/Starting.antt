@@ -21,8 +21,7 @@ use Rattle.device.specs.Events.{Made, silently, effect}
 use Rattle.device.specs.Validity.{validOf}
 use Rattle.device.specs.declared.Device.{Device}
 use Rattle.laws.specs.Stays.{valid-in}
-use Rattle.wire.specs.Needs.{tin}
-use Rattle.promises.specs.Touching.{tcr-holds, tin-level}
+use Rattle.laws.specs.Touching.{tin, tcr-holds, tin-level}
 use Rattle.promises.specs.Undisturbed.{tin-quiet}
 use Rattle.promises.specs.Formula.{Starts, preloadOf}
 

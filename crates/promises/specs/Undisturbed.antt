@@ -31,8 +31,8 @@ use Rattle.device.specs.declared.Outside.{Outside}
 use Rattle.device.specs.declared.Device.{Device}
 use Rattle.device.specs.declared.Stepped.{Stepped}
 use Rattle.laws.specs.Reads.{any-read}
-use Rattle.wire.specs.Needs.{tin, needsOf}
-use Rattle.promises.specs.Touching.{any-write, any-pin, tin-level}
+use Rattle.wire.specs.Needs.{needsOf}
+use Rattle.laws.specs.Touching.{tin, any-write, any-pin, tin-level}
 
 -- no reset, no write of TCR (16) or of a preload register (19 to 21) and, with source 01, no TIN at low: by these alone is a run on
 -- CLK halted, or its source, preload or reload changed
@@ -119,11 +119,11 @@ module _ (t : Timer) where
   unfolding writeTsr clearedOf
   write-follows d r v u f =
       any-write (λ (x : Device). Follows t (x .timer) (tinOf x)) d r v
-      (λ x p q. same-follows d x f p (ap (λ (o : Outside). bitOf (o .c) 2) q))
+      (λ x _ p q. same-follows d x f p (ap (λ (o : Outside). bitOf (o .c) 2) q))
       (λ e. absurd (u .0 e))
-      (shown f _ _ _)
+      (λ _. shown f _ _ _)
       (λ low high. absurd (⊎-elim (λ l. omega arith) (λ l. omega arith) (u .1)))
-      (branch (λ (x : Timer). Follows t x (tinOf d)) (bitOf v 0) (withZds (d .timer) false) (d .timer) (λ _. shown f _ _ _) (λ _. f))
+      (λ _. branch (λ (x : Timer). Follows t x (tinOf d)) (bitOf v 0) (withZds (d .timer) false) (d .timer) (λ _. shown f _ _ _) (λ _. f))
 
   pin-follows : (d : Device) (n : ℕ) (level : Bool) → Undisturbing (t .tcr) (Pin n level) → Follows t (d .timer) (tinOf d)
       → Follows t (pinOf d n level .device .timer) (tinOf (pinOf d n level .device)) × (pinOf d n level .opened ≡ false)

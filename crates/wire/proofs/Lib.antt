@@ -1,4 +1,3 @@
 pub mod Window
-pub mod Reach
 pub mod Unique
 pub mod Lists

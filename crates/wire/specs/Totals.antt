@@ -8,8 +8,8 @@ use lib.ListN.{length}
 use Rattle.wire.specs.Field.{bitsIn}
 use Rattle.wire.specs.Next.{mostBytes, mostClocks, kindBits, clocksBits, bitsOf}
 use Rattle.wire.specs.List.{Parsed, events, refused, prepend, rest, parsed}
-use Rattle.wire.specs.Needs.{needsOf, Within, two-answers, one-pin}
-use Rattle.wire.specs.WellFormed.{wellFormed, allWellFormed, bitsOfAll, three-bits, clocksEvent, clocks-bits, most-clocks}
+use Rattle.wire.specs.Needs.{needsOf}
+use Rattle.wire.specs.WellFormed.{wellFormed, allWellFormed, bitsOfAll, clocksEvent, clocks-bits, most-clocks}
 use Rattle.wire.specs.Finds.{Finds, finds, moves}
 use Rattle.wire.specs.Rest.{each-rest}
 use Rattle.event.specs.declared.Event.{Event}
@@ -26,7 +26,6 @@ pub record Totals (s : List ℕ) (es : List Event) : Type 0 where
   pub bits : bitsOfAll es + kindBits ≤ bitsIn s
   pub many : clocksEvents es ≤ 6898
   pub clocks : needsOf es .clocks ≤ 452067328
-  pub room : Within (needsOf es) (bitsIn s)
 
 all-bits : (es : List Event) → (kindBits + clocksBits) * clocksEvents es ≤ bitsOfAll es
 unfolding clocksEvents bitsOfAll
@@ -37,16 +36,6 @@ all-clocks : (es : List Event) → allWellFormed es → needsOf es .clocks ≤ m
 unfolding allWellFormed clocksEvents needsOf
 all-clocks [] formed = omega arith
 all-clocks (e ∷ es) formed = omega (arith, most-clocks e (formed .0), all-clocks es (formed .1))
-
-all-answers : (es : List Event) → needsOf es .answers ≤ bitsOfAll es
-unfolding bitsOfAll needsOf
-all-answers [] = omega arith
-all-answers (e ∷ es) = omega (arith, two-answers e, three-bits e, all-answers es)
-
-all-pins : (es : List Event) → needsOf es .pins ≤ bitsOfAll es
-unfolding bitsOfAll needsOf
-all-pins [] = omega arith
-all-pins (e ∷ es) = omega (arith, one-pin e, three-bits e, all-pins es)
 
 -- events that end a list from bit at on
 record Fit (s : List ℕ) (at : ℕ) (es : List Event) : Type 0 where
@@ -87,5 +76,4 @@ module _ (s : List ℕ) where
         bits = omega arith;
         many = omega arith;
         clocks = omega arith;
-        room = record { answers = omega (arith, all-answers es); clocks = omega arith; pins = omega (arith, all-pins es) };
       }

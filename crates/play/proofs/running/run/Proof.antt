@@ -1,5 +1,5 @@
 -- `run` meets its contract: at each turn what is left of the list, played from here, ends as the whole list from the start.
-use Prim.Native.Nat.{ℕ, _*_, _-_}
+use Prim.Native.Nat.{_*_, _-_}
 use mathlib.Core.Path.{_≡_, refl, sym, ap, _∙_}
 use native.Mathlib.Omega.{arith}
 use denote.Ref.{now}

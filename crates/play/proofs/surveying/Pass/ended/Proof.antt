@@ -1,9 +1,8 @@
--- `ended` meets its contract.
 use borrow.Author.Needs.{needs}
 use mathlib.Core.Path.{sym, ap}
-use Rattle.wire.specs.Needs.{endedOf}
-use Rattle.wire.proofs.list.ended.Statement.{statement}
-use Rattle.wire.proofs.list.ended.Tie as tie
+use Rattle.play.specs.Survey.{endedOf}
+use Rattle.play.proofs.surveying.Pass.ended.Statement.{statement}
+use Rattle.play.proofs.surveying.Pass.ended.Tie as tie
 
 enum-known-next : tie.Need-enum-known-next
 enum-known-next c = search needs
@@ -15,7 +14,7 @@ enum-told-2 : tie.Need-enum-told-2
 enum-told-2 c = search needs
 
 returns : tie.Need-returns
-returns c = sym (ap (endedOf (c .before .before .before .args .needs)) (c .before .next .given .1))
+returns c = sym (ap (endedOf (c .before .before .before .before .args .self)) (c .before .next .given .1))
 
 returns-2 : tie.Need-returns-2
 returns-2 c = simp (c .enum-told .given .1)

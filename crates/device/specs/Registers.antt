@@ -4,11 +4,13 @@ use mathlib.Core.Bool.{Bool, _&&_}
 use lib.Dec.{eqb, leb, ltb}
 use lib.Bits.{bitAnd}
 use Rattle.bits.specs.Choice.{if_then_else_}
-use Rattle.bits.specs.Field.{bitOf, chosenOf, packedOf}
+use Rattle.bits.specs.Field.{bitOf, packedOf}
 use Rattle.port.specs.Happening.{withDirection, readOf as portRead, writeOf as portWrite, flagsClearedOf, modedOf, controlledOf}
+use Rattle.port_c.specs.Pins.{dataOf}
 use Rattle.timer.specs.Registers.{byteOf, withTivr, controlledOf as tcrWritten, clearedOf, preloadedOf}
 use Rattle.device.specs.Parts.{withPsrr, withPivr, withA, withB, withC, withTimer, rulesA, rulesB}
 use Rattle.device.specs.Interrupts.{statusesOf}
+use Rattle.device.specs.Clocking.{tinOf}
 use Rattle.device.specs.Pins.{pinsA, pinsB, pinsC, levelH2, levelH4}
 use Rattle.device.specs.declared.Device.{Device}
 use Rattle.device.specs.declared.ReadOut.{ReadOut}
@@ -23,10 +25,6 @@ readA d = plainly (withA d (portRead (d .a) (rulesA d) (pinsA d) .port)) (portRe
 
 unfoldable pub readB : Device → ReadOut
 readB d = plainly (withB d (portRead (d .b) (rulesB d) (pinsB d) .port)) (portRead (d .b) (rulesB d) (pinsB d) .byte)
-
--- data C reads the pin where direction is 0, else the latch, either way
-unfoldable pub readC : Device → ℕ
-readC d = chosenOf (pinsC d) (d .c .latch) (d .c .direction)
 
 -- PSR bits 7-4 are the levels of H4-H1, bits 3-0 H4S-H1S
 unfoldable pub psrOf : Device → ℕ
@@ -49,7 +47,7 @@ readOf d r =
     else if eqb r 9 then readB d
     else if eqb r 10 then plainly d (pinsA d)
     else if eqb r 11 then plainly d (pinsB d)
-    else if eqb r 12 then plainly d (readC d)
+    else if eqb r 12 then plainly d (dataOf (d .c) (pinsC d))
     else if eqb r 13 then plainly d (psrOf d)
     else if eqb r 16 then plainly d (d .timer .tcr)
     else if eqb r 17 then plainly d (d .timer .tivr)
@@ -87,7 +85,7 @@ writePsr d v =
     withB (withA d (flagsClearedOf (d .a) (bitOf v 0) (bitOf v 1))) (flagsClearedOf (d .b) (bitOf v 2) (bitOf v 3))
 
 unfoldable pub writeTcr : Device → ℕ → Device
-writeTcr d v = withTimer d (tcrWritten (d .timer) v (bitOf (d .outside .c) 2))
+writeTcr d v = withTimer d (tcrWritten (d .timer) v (tinOf d))
 
 unfoldable pub writePreload : Device → ℕ → ℕ → Device
 writePreload d place v = withTimer d (preloadedOf (d .timer) place v)

@@ -7,13 +7,8 @@ pub mod registers;
 pub mod validity;
 
 use port::Port;
+use port_c::PortC;
 use timer::Timer;
-
-// Port C: its direction register and its latch.
-pub struct PortC {
-    pub direction: u8,
-    pub latch: u8,
-}
 
 // The remembered outside levels of the 28 pins.
 pub struct Outside {
@@ -40,7 +35,7 @@ pub struct Device {
 
 impl Device {
     // PIVR as reset leaves it.
-    pub const VECTOR: u8 = 0x0f;
+    pub const VECTOR: u8 = interrupt::RESET_VECTOR;
 }
 
 // The device after a read, and the byte read.

@@ -11,19 +11,20 @@ use Rattle.bits.specs.Field.{bitOf}
 use Rattle.bits.specs.Trying.{any-below}
 use Rattle.event.specs.declared.Event.{Event}
 use Rattle.event.specs.declared.Event.the-variants.{Write, Read, PortAcknowledge, TimerAcknowledge, Pin, Clocks, Reset}
+use Rattle.interrupt.specs.Answering.{resetVector}
 use Rattle.port.specs.Control.{rulesOf}
 use Rattle.port.specs.Validity.{soundOf as soundPort}
 use Rattle.port.specs.declared.Port.{Port}
+use Rattle.port_c.specs.declared.PortC.{PortC}
 use Rattle.timer.specs.Validity.{soundOf as soundTimer}
 use Rattle.timer.specs.declared.Timer.{Timer}
 use Rattle.device.specs.Parts.{withA, withB, withC, withTimer, withOutside, rulesA, rulesB}
-use Rattle.device.specs.Fresh.{resetVector, freshDevice, resetOf}
-use Rattle.device.specs.Pins.{pinsA, pinsB, outsideC, outC, assertsOf, quietly, tinEvent, pinC, firstPinA, secondPinA, firstPinB, secondPinB, pinOf}
+use Rattle.device.specs.Fresh.{freshDevice, resetOf}
+use Rattle.device.specs.Pins.{pinsA, pinsB, outC, assertsOf, quietly, tinEvent, pinC, firstPinA, secondPinA, firstPinB, secondPinB, pinOf}
 use Rattle.device.specs.Registers.{readA, readB, readOf, writePgcr, writePacr, writePbcr, writeA, writeB, writePsr, writeTcr, writePreload, writeTsr, writeOf}
-use Rattle.device.specs.Clocking.{clockOf, after}
+use Rattle.device.specs.Clocking.{tinOf, clockOf, after}
 use Rattle.device.specs.Events.{effect, made}
 use Rattle.device.specs.Validity.{validOf}
-use Rattle.device.specs.declared.PortC.{PortC}
 use Rattle.device.specs.declared.Outside.{Outside}
 use Rattle.device.specs.declared.Device.{Device}
 use Rattle.device.specs.declared.Stepped.{Stepped}
@@ -184,7 +185,7 @@ unfolding tinEvent
 tin-valid d level v = record {
   psrr = v .psrr;
   pivr = v .pivr;
-  timer = rw (with-bit (d .outside .c) 2 2 level (omega arith)) (tin-sound (d .timer) (outsideC d 2) level (v .timer));
+  timer = rw (with-bit (d .outside .c) 2 2 level (omega arith)) (tin-sound (d .timer) (tinOf d) level (v .timer));
   a = v .a;
   b = v .b;
 }

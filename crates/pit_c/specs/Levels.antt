@@ -13,6 +13,7 @@ use Rattle.bits.specs.Choice.{if_then_else_, branch, beq-true}
 use Rattle.bits.specs.Field.{bitOf, chosenOf, packedOf}
 use Rattle.bits.specs.Trying.{Trial, anyBool, _and_}
 use Rattle.port.specs.Status.{pinsOf}
+use Rattle.port_c.specs.Pins.{shownOf}
 use Rattle.device.specs.Pins.{pinsA, pinsB, pinsC, levelH2, levelH4, levelOf}
 use Rattle.device.specs.declared.Device.{Device}
 use Rattle.pit_c.specs.Layout.{byteAt, numberOf, portAt, outsideOf, deviceOf}
@@ -121,5 +122,5 @@ module _ (d : Device) (a8 : pinsA d < 2 ^ 8) (b8 : pinsB d < 2 ^ 8) (c8 : pinsC 
 
 -- every pin, of a device taken out of bytes
 pub level-bit : (l : List ℕ) → ((i : ℕ) → byteAt l i < 2 ^ 8) → (n : ℕ) → n < 28 → bitOf (levelsOf (deviceOf l)) n ≡ levelOf (deviceOf l) n
-unfolding pinsA pinsB pinsC pinsOf deviceOf portAt outsideOf
+unfolding pinsA pinsB pinsC pinsOf shownOf deviceOf portAt outsideOf
 level-bit l b = shown (deviceOf l) (chosen-lt _ _ _ (b 45) (b 5)) (chosen-lt _ _ _ (b 46) (b 18)) (packed-lt _ _ _ _ _ _ _ _)

@@ -1,10 +1,10 @@
 // The device as 52 bytes (include/pit.h, 'Layout of the device').
 use device::Device;
 use device::Outside;
-use device::PortC;
 use port::Buffer;
 use port::Port;
 use port::Strobe;
+use port_c::PortC;
 use timer::Count;
 use timer::Prescaler;
 use timer::Timer;

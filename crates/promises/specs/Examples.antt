@@ -10,6 +10,9 @@ use Rattle.port.specs.Handshaking as handshaking
 use Rattle.port.specs.Happening as port
 use Rattle.port.specs.Status as status
 use Rattle.port.specs.Validity as portValidity
+use Rattle.interrupt.specs.Enabling.{dmaOf, enabledIn}
+use Rattle.interrupt.specs.Priority.{orders, rankedOf, flagOf, firstOf, highestOf}
+use Rattle.interrupt.specs.Answering.{offsetOf, vectorOf, answerOf, acknowledgeOf}
 use Rattle.timer.specs.Control.{sourceOf, runsOf, clockedOf}
 use Rattle.timer.specs.Counting.{scaledOf, atZeroOf, countOf, stepOf}
 use Rattle.timer.specs.Running as timer
@@ -67,8 +70,8 @@ unfolding
     freshDevice rulesA rulesB
     registers.readOf registers.writeOf registers.writePgcr registers.writePacr registers.writePbcr registers.writeTcr registers.writePreload
     pins.pinOf pins.assertsOf pins.firstPinA pins.secondPinA pins.firstPinB
-    interrupts.statusesOf interrupts.dmaOf interrupts.enabledOf interrupts.orders interrupts.rankedOf interrupts.flagOf interrupts.firstOf
-    interrupts.highestOf interrupts.offsetOf interrupts.vectorOf interrupts.answerOf interrupts.portAcknowledge
+    dmaOf enabledIn orders rankedOf flagOf firstOf highestOf offsetOf vectorOf answerOf acknowledgeOf
+    interrupts.statusesOf interrupts.enabledOf interrupts.portAcknowledge
 found r = shownOf (playOf (r .list) freshDevice (replicate 2 0) (replicate (r .room) 0))
 
 -- P8 preload 0, 65,536 clocks

@@ -48,8 +48,11 @@ pins-b-requires c κs = search needs
 plainly-requires-10 : tie.Need-plainly-requires-10
 plainly-requires-10 c κs = search needs
 
-read-c-requires : tie.Need-read-c-requires
-read-c-requires c κs = search needs
+pins-c-requires : tie.Need-pins-c-requires
+pins-c-requires c κs = search needs
+
+read-requires : tie.Need-read-requires
+read-requires c κs = search needs
 
 plainly-requires-11 : tie.Need-plainly-requires-11
 plainly-requires-11 c κs = search needs
@@ -134,7 +137,7 @@ returns-12 c = simp (c .before .before .match .keys12, sym (c .before .pins-b .e
 
 returns-13 : tie.Need-returns-13
 unfolding readOf
-returns-13 c = simp (c .before .before .match .keys13, sym (c .before .read-c .ensures), sym (c .plainly11 .ensures))
+returns-13 c = simp (c .before .before .before .match .keys13, sym (c .before .before .pins-c .ensures), sym (c .before .read .ensures), sym (c .plainly11 .ensures))
 
 returns-14 : tie.Need-returns-14
 unfolding readOf
@@ -190,7 +193,8 @@ read-spec =
     plainly-requires-9
     pins-b-requires
     plainly-requires-10
-    read-c-requires
+    pins-c-requires
+    read-requires
     plainly-requires-11
     psr-requires
     plainly-requires-12

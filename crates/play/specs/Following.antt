@@ -32,8 +32,8 @@ use Rattle.laws.specs.Touching.{tin, any-write, any-pin, tin-level}
 use Rattle.play.specs.Needed.{two-bytes}
 use Rattle.play.specs.Gate.{gate, watched, gateOf, writtenGate, levelledGate, clockedGate, resetGate, once, at-most-clocks}
 use Rattle.play.specs.Survey.{passAt, startPass, followedOf, roomOf, surveyedOf}
-use Rattle.play.specs.declared.surveying.Gate.{Gate}
-use Rattle.play.specs.declared.surveying.Watched.{Watched}
+use Rattle.play.specs.declared.gate.Gate.{Gate}
+use Rattle.play.specs.declared.gate.Watched.{Watched}
 use Rattle.play.specs.declared.surveying.Room.{Room}
 use Rattle.play.specs.declared.surveying.Pass.{Pass}
 use Rattle.play.specs.declared.surveying.Surveyed.{Surveyed}

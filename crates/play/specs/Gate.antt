@@ -12,8 +12,8 @@ use Rattle.clocks.specs.Numbers.{at-most}
 use Rattle.device.specs.Clocking.{tinOf}
 use Rattle.device.specs.declared.Device.{Device}
 use Rattle.laws.specs.Touching.{tin}
-use Rattle.play.specs.declared.surveying.Gate.{Gate}
-use Rattle.play.specs.declared.surveying.Watched.{Watched}
+use Rattle.play.specs.declared.gate.Gate.{Gate}
+use Rattle.play.specs.declared.gate.Watched.{Watched}
 
 abbrev pub gate : Timer → Bool → Gate
 gate t level = record { timer = t; tin = level }

@@ -11,8 +11,8 @@ use Rattle.wire.specs.declared.next.Next.the-variants.{Play, End, Refused}
 use Rattle.device.specs.Events.{Made, made}
 use Rattle.device.specs.declared.Device.{Device}
 use Rattle.play.specs.Gate.{gateOf, writtenGate, levelledGate, clockedGate, resetGate}
-use Rattle.play.specs.declared.surveying.Gate.{Gate}
-use Rattle.play.specs.declared.surveying.Watched.{Watched}
+use Rattle.play.specs.declared.gate.Gate.{Gate}
+use Rattle.play.specs.declared.gate.Watched.{Watched}
 use Rattle.play.specs.declared.surveying.Room.{Room}
 use Rattle.play.specs.declared.surveying.Pass.{Pass}
 use Rattle.play.specs.declared.surveying.Surveyed.{Surveyed}

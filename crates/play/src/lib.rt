@@ -1,4 +1,5 @@
 // Plays an event list on a device (01, 'The event list').
+mod gate;
 mod performing;
 mod playing;
 mod running;

@@ -3,6 +3,7 @@ pub mod Prefixes
 pub mod Effects
 pub mod Moments
 pub mod Openings
+pub mod GateAlone
 pub mod Undisturbed
 pub mod Formula
 pub mod Starting

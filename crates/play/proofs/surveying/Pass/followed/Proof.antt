@@ -12,7 +12,7 @@ use Rattle.wire.specs.declared.next.Next.the-variants.{Play, End, Refused}
 use Rattle.wire.proofs.next.Next.{the-type}
 use Rattle.play.specs.Gate.{once, at-most-clocks}
 use Rattle.play.specs.Survey.{Fits, Followable, withGate, watchedPass, followedOf, followedNext}
-use Rattle.play.specs.declared.surveying.Watched.{Watched}
+use Rattle.play.specs.declared.gate.Watched.{Watched}
 use Rattle.play.specs.declared.surveying.Pass.{Pass}
 use Rattle.play.proofs.surveying.Pass.followed.Statement.{statement}
 use Rattle.play.proofs.surveying.Pass.followed.Tie as tie

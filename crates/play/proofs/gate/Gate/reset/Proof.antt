@@ -1,7 +1,7 @@
 use mathlib.Core.Path.{sym}
 use borrow.Author.Needs.{needs}
-use Rattle.play.proofs.surveying.Gate.reset.Statement.{statement}
-use Rattle.play.proofs.surveying.Gate.reset.Tie as tie
+use Rattle.play.proofs.gate.Gate.reset.Statement.{statement}
+use Rattle.play.proofs.gate.Gate.reset.Tie as tie
 
 reset-requires : tie.Need-reset-requires
 reset-requires c κs = search needs

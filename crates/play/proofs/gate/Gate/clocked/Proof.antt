@@ -4,8 +4,8 @@ use borrow.Author.Needs.{needs}
 use Rattle.clocks.specs.Clocks.{clocksOf}
 use Rattle.clocks.specs.Spans.{idle}
 use Rattle.play.specs.Gate.{clockedGate}
-use Rattle.play.proofs.surveying.Gate.clocked.Statement.{statement}
-use Rattle.play.proofs.surveying.Gate.clocked.Tie as tie
+use Rattle.play.proofs.gate.Gate.clocked.Statement.{statement}
+use Rattle.play.proofs.gate.Gate.clocked.Tie as tie
 
 clocked-requires : tie.Need-clocked-requires
 clocked-requires c κs = search needs

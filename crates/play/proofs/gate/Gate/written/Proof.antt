@@ -2,8 +2,8 @@ use borrow.Author.Tests.{le-leb, le-ltb, lt-leb, lt-ltb, ne-eqb}
 use mathlib.Core.Path.{sym}
 use Rattle.play.specs.Gate.{writtenGate}
 use borrow.Author.Needs.{needs}
-use Rattle.play.proofs.surveying.Gate.written.Statement.{statement}
-use Rattle.play.proofs.surveying.Gate.written.Tie as tie
+use Rattle.play.proofs.gate.Gate.written.Statement.{statement}
+use Rattle.play.proofs.gate.Gate.written.Tie as tie
 
 controlled-requires : tie.Need-controlled-requires
 controlled-requires c κs = search needs

@@ -2,8 +2,8 @@ use borrow.Author.Tests.{eq-eqb, ne-eqb}
 use mathlib.Core.Path.{sym}
 use Rattle.play.specs.Gate.{levelledGate}
 use borrow.Author.Needs.{needs}
-use Rattle.play.proofs.surveying.Gate.levelled.Statement.{statement}
-use Rattle.play.proofs.surveying.Gate.levelled.Tie as tie
+use Rattle.play.proofs.gate.Gate.levelled.Statement.{statement}
+use Rattle.play.proofs.gate.Gate.levelled.Tie as tie
 
 returns : tie.Need-returns
 unfolding levelledGate

@@ -1,7 +1,7 @@
 use mathlib.Core.Path.{sym}
 use borrow.Author.Needs.{needs}
-use Rattle.play.proofs.surveying.Gate.of.Statement.{statement}
-use Rattle.play.proofs.surveying.Gate.of.Tie as tie
+use Rattle.play.proofs.gate.Gate.of.Statement.{statement}
+use Rattle.play.proofs.gate.Gate.of.Tie as tie
 
 bit-requires : tie.Need-bit-requires
 bit-requires c κs = search needs

@@ -20,7 +20,7 @@ use Rattle.wire.specs.declared.next.Next.the-variants.{Play, End, Refused}
 use Rattle.wire.proofs.next.Next.{the-type}
 use Rattle.clocks.specs.Rows.{sets-append}
 use Rattle.device.specs.Events.{made, joined, silently}
-use Rattle.play.specs.Needed.{event-answers, event-openings, event-clocks}
+use Rattle.survey.specs.Needed.{event-answers, event-openings, event-clocks}
 use Rattle.play.specs.Run.{tallied, next, ended, laidOf, Performed, Counted}
 use Rattle.play.specs.declared.tally.Tally.{Tally}
 use Rattle.play.proofs.Leaves.{same-tally}

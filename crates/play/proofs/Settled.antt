@@ -15,10 +15,10 @@ use Rattle.device.specs.Validity.{validOf}
 use Rattle.device.specs.declared.Device.{Device}
 use Rattle.play.specs.Play.{result, refusal, acceptance, settled, settle, playOf}
 use Rattle.play.specs.Run.{startAt, tallied, ended, laidOf, acceptedTally}
-use Rattle.play.specs.Survey.{roomOf, surveyedOf}
+use Rattle.survey.specs.Survey.{roomOf, surveyedOf}
 use Rattle.play.specs.declared.tally.Tally.{Tally}
-use Rattle.play.specs.declared.surveying.Room.{Room}
-use Rattle.play.specs.declared.surveying.Surveyed.the-variants.{Whole, Refused}
+use Rattle.survey.specs.declared.surveying.Room.{Room}
+use Rattle.survey.specs.declared.surveying.Surveyed.the-variants.{Whole, Refused}
 
 -- a list that the first pass takes, with the room that it needs
 pub record Taken (s : List ℕ) (d : Device) (n : Room) : Type 0 where

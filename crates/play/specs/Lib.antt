@@ -1,6 +1,2 @@
 pub mod Play
 pub mod Run
-pub mod Needed
-pub mod Gate
-pub mod Survey
-pub mod Following

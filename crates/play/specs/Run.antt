@@ -15,8 +15,8 @@ use Rattle.device.specs.declared.Device.{Device}
 use Rattle.play.specs.declared.tally.Tally.{Tally}
 use Rattle.play.specs.Play.{refusedOutcome}
 use Rattle.play.specs.declared.playing.Outcome.{Outcome}
-use Rattle.play.specs.declared.surveying.Surveyed.{Surveyed}
-use Rattle.play.specs.declared.surveying.Surveyed.the-variants as surveyed
+use Rattle.survey.specs.declared.surveying.Surveyed.{Surveyed}
+use Rattle.survey.specs.declared.surveying.Surveyed.the-variants as surveyed
 
 -- before the first event
 abbrev pub startAt : Device → Tally

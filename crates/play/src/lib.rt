@@ -1,9 +1,7 @@
 // Plays an event list on a device (01, 'The event list').
-mod gate;
 mod performing;
 mod playing;
 mod running;
-mod surveying;
 mod tally;
 
 pub use playing::Outcome;

@@ -1,9 +1,9 @@
 // The whole call.
 use crate::running::run;
-use crate::surveying::Surveyed;
-use crate::surveying::survey;
 use crate::tally::Tally;
 use device::Device;
+use survey::Surveyed;
+use survey::survey;
 ghost use mathlib.Core.Path.{_≡_};
 ghost use Rattle.play.specs.Play.{refusedOutcome, Plays};
 ghost use Rattle.play.specs.Run.{acceptedTally, unreadOutcome};

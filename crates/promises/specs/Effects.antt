@@ -14,7 +14,7 @@ use Rattle.device.specs.Events.{made}
 use Rattle.device.specs.Validity.{validOf}
 use Rattle.device.specs.declared.Device.{Device}
 use Rattle.play.specs.Play.{Result, acceptance, playOf}
-use Rattle.play.specs.Needed.{answers-needed}
+use Rattle.survey.specs.Needed.{answers-needed}
 use Rattle.promises.specs.Refusals.{tests}
 
 -- the list is read as the events es, there is room for what they make, and x is what they make of the device and of what is lent

@@ -12,13 +12,13 @@ use Rattle.device.specs.Pins.{pinOf}
 use Rattle.device.specs.ManyClocks.{opens}
 use Rattle.device.specs.Events.{effect, made}
 use Rattle.device.specs.declared.Device.{Device}
-use Rattle.play.specs.Needed.{event-clocks}
-use Rattle.play.specs.Gate.{gateOf, levelledGate}
-use Rattle.play.specs.Survey.{passAt, followedOf}
-use Rattle.play.specs.Following.{gate-levelled, follows}
-use Rattle.play.specs.declared.gate.Gate.{Gate}
-use Rattle.play.specs.declared.gate.Watched.{Watched}
-use Rattle.play.specs.declared.surveying.Pass.{Pass}
+use Rattle.survey.specs.Needed.{event-clocks}
+use Rattle.survey.specs.Gate.{gateOf, levelledGate}
+use Rattle.survey.specs.Survey.{passAt, followedOf}
+use Rattle.survey.specs.Following.{gate-levelled, follows}
+use Rattle.survey.specs.declared.gate.Gate.{Gate}
+use Rattle.survey.specs.declared.gate.Watched.{Watched}
+use Rattle.survey.specs.declared.surveying.Pass.{Pass}
 
 -- as many openings at one number are the same openings
 same-mark : (a b : Bool) (k : ℕ) → length (mark a k []) ≡ length (mark b k []) → mark a k [] ≡ mark b k []

@@ -20,7 +20,7 @@ use Rattle.device.specs.Validity.{validOf}
 use Rattle.device.specs.declared.Device.{Device}
 use Rattle.laws.specs.Stays.{list-stays}
 use Rattle.play.specs.Play.{Result, acceptance, playOf}
-use Rattle.play.specs.Needed.{clocks-passed}
+use Rattle.survey.specs.Needed.{clocks-passed}
 use Rattle.promises.specs.Prefixes.{prefix}
 use Rattle.promises.specs.Undisturbed.{Undisturbed}
 use Rattle.promises.specs.Formula.{preloadOf, formula, how-many, opening-at}

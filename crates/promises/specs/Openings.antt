@@ -31,7 +31,7 @@ use Rattle.device.specs.Events.{Made, silently, joined, effect, made}
 use Rattle.device.specs.declared.Device.{Device}
 use Rattle.device.specs.declared.Stepped.{Stepped}
 use Rattle.laws.specs.Reads.{any-read}
-use Rattle.play.specs.Needed.{event-clocks, clocks-passed}
+use Rattle.survey.specs.Needed.{event-clocks, clocks-passed}
 use Rattle.promises.specs.Prefixes.{prefix}
 use Rattle.laws.specs.Touching.{any-write, any-pin}
 use Rattle.promises.specs.Moments.{single, singly, lowersToZero, moments}

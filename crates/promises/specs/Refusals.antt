@@ -21,7 +21,7 @@ use Rattle.device.specs.Events.{made}
 use Rattle.device.specs.Validity.{validOf}
 use Rattle.device.specs.declared.Device.{Device}
 use Rattle.play.specs.Play.{Result, refusal, acceptance, settle, playOf}
-use Rattle.play.specs.Needed.{answers-needed}
+use Rattle.survey.specs.Needed.{answers-needed}
 
 -- 'A refused call returns number, place, zero answers, openings and clocks, and the device it was given; nothing lent is written.'
 pub record Untouched (d : Device) (lentAnswers lentOpenings : List ℕ) (x : Result) : Type 0 where

@@ -15,7 +15,7 @@ use Rattle.wire.specs.declared.next.Next.the-variants.{Play, End, Refused}
 use Rattle.wire.proofs.next.Next.{the-type}
 use Rattle.device.specs.Events.{effect, silently, answering, answerBytes}
 use Rattle.device.specs.declared.Device.{Device}
-use Rattle.play.specs.Needed.{two-bytes}
+use Rattle.survey.specs.Needed.{two-bytes}
 use Rattle.play.specs.Run.{next, Counted, Performed, Performs, Allowed}
 use Rattle.play.specs.declared.tally.Tally.{Tally}
 use Rattle.play.proofs.Leaves.{quiet, told, opens}

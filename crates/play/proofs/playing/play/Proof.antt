@@ -7,7 +7,7 @@ use Rattle.device.specs.Validity.{validOf}
 use Rattle.play.specs.Play.{result}
 use Rattle.play.specs.Run.{unreadOutcome}
 use Rattle.play.specs.declared.playing.Outcome.{Outcome}
-use Rattle.play.specs.declared.surveying.Surveyed.{Surveyed}
+use Rattle.survey.specs.declared.surveying.Surveyed.{Surveyed}
 use Rattle.play.proofs.Settled.{taken, invalid, stops, few-bytes, few-entries, accepts}
 use borrow.Author.Needs.{needs}
 use Rattle.play.proofs.playing.play.Statement.{statement}

@@ -1,0 +1,2 @@
+pub mod FirstPass
+pub mod Unique

@@ -1,0 +1,4 @@
+pub mod Needed
+pub mod Gate
+pub mod Survey
+pub mod Following

@@ -90,6 +90,7 @@ cleared-none : (p : Port) (one two : Bool) → NoEdge p (flagsClearedOf p one tw
 cleared-none p one two =
     record { first = λ e. and-left (p .h1) (not one) e; second = λ e. and-left (p .h2) (not two) e; buffer = inl refl }
 
+-- to neither port
 abbrev pub NoEdges : Device → Device → Type 0
 NoEdges d x = NoEdge (d .a) (x .a) × NoEdge (d .b) (x .b)
 

@@ -63,11 +63,11 @@ pub record Counted (t : Tally) (at : ℕ) : Type 0 where
   pub opened : t .openings ≤ t .clocks + at
   pub clocked : 19 * t .clocks ≤ mostClocks * at
 
--- what was read, played: an event, if it is one
+-- what was read, played: an event, if it is one; else all stays as it was
 abbrev pub Performs : Tally → Next → Tally → List ℕ → List ℕ → List ℕ → List ℕ → Type 0
 Performs t (Play e p) r bs bs′ os os′ = Performed t e r bs bs′ os os′
-Performs t End r bs bs′ os os′ = Unit {0}
-Performs t (Refused q p) r bs bs′ os os′ = Unit {0}
+Performs t End r bs bs′ os os′ = (r ≡ t) × (bs′ ≡ bs) × (os′ ≡ os)
+Performs t (Refused q p) r bs bs′ os os′ = (r ≡ t) × (bs′ ≡ bs) × (os′ ≡ os)
 
 -- what may be played: at most 65,536 clocks, after what a list can have counted
 abbrev pub Allowed : Tally → Next → Type 0
@@ -75,6 +75,7 @@ Allowed t (Play e p) = Counted t mostBits × (clocksIn e ≤ mostClocks)
 Allowed t End = Unit {0}
 Allowed t (Refused q p) = Unit {0}
 
+-- the outcome of a run over a whole list
 abbrev pub acceptedTally : Tally → Outcome
 acceptedTally t = record { refusal = 0; place = 0; answers = t .answers; openings = t .openings; clocks = t .clocks; device = t .device }
 

@@ -15,9 +15,11 @@ use Rattle.laws.specs.Touching.{tin}
 use Rattle.survey.specs.declared.gate.Gate.{Gate}
 use Rattle.survey.specs.declared.gate.Watched.{Watched}
 
+-- the gate of a timer, with TIN at a level
 abbrev pub gate : Timer → Bool → Gate
 gate t level = record { timer = t; tin = level }
 
+-- a gate, and how often it opened on the way there
 abbrev pub watched : Gate → ℕ → Watched
 watched g n = record { gate = g; opened = n }
 
@@ -25,7 +27,7 @@ watched g n = record { gate = g; opened = n }
 abbrev pub gateOf : Device → Gate
 gateOf d = gate (d .timer) (tinOf d)
 
--- a write
+-- a write: TCR, TIVR, the preload's three bytes and TSR are the timer's (01, 'Registers')
 unfoldable pub writtenGate : Gate → ℕ → ℕ → Gate
 writtenGate g r v =
     if eqb r 16 then gate (controlledOf (g .timer) v (g .tin)) (g .tin)
@@ -34,17 +36,18 @@ writtenGate g r v =
     else if eqb r 26 then gate (clearedOf (g .timer) v) (g .tin)
     else g
 
--- a level at a pin
+-- a level at a pin: PC2's is TIN's, where an edge may open between clocks (01, 'Timer')
 unfoldable pub levelledGate : Gate → ℕ → Bool → Watched
 levelledGate g n level =
     if eqb n tin
     then watched (gate (tinGoes (g .timer) (g .tin) level .timer) level) (if tinGoes (g .timer) (g .tin) level .opened then 1 else 0)
     else watched g 0
 
--- n clocks
+-- n clocks, one at a time
 unfoldable pub clockedGate : Gate → ℕ → Watched
 clockedGate g n = watched (gate (after (g .tin) n (g .timer)) (g .tin)) (length (openings (g .tin) n 0 (g .timer)))
 
+-- a reset, which keeps the outside level (01, 'A fresh device')
 abbrev pub resetGate : Gate → Gate
 resetGate g = gate (resetOf (g .timer)) (g .tin)
 

@@ -18,6 +18,7 @@ use Rattle.survey.specs.declared.surveying.Pass.{Pass}
 use Rattle.survey.specs.declared.surveying.Surveyed.{Surveyed}
 use Rattle.survey.specs.declared.surveying.Surveyed.the-variants as surveyed
 
+-- a pass that stands at a gate, with the room that is needed so far
 abbrev pub passAt : Gate → ℕ → ℕ → Pass
 passAt g a o = record { gate = g; room = record { answers = a; openings = o } }
 
@@ -25,13 +26,15 @@ passAt g a o = record { gate = g; room = record { answers = a; openings = o } }
 abbrev pub startPass : Device → Pass
 startPass d = passAt (gateOf d) 0 0
 
--- two answer bytes more
+-- two answer bytes more (01: 'each read and each acknowledge appends two answer bytes')
 abbrev pub answeredPass : Pass → Pass
 answeredPass v = passAt (v .gate) (v .room .answers + 2) (v .room .openings)
 
+-- at another gate, nothing opened
 abbrev pub withGate : Pass → Gate → Pass
 withGate v g = passAt g (v .room .answers) (v .room .openings)
 
+-- at another gate, with the openings on the way there
 abbrev pub watchedPass : Pass → Watched → Pass
 watchedPass v w = passAt (w .gate) (v .room .answers) (v .room .openings + w .opened)
 

@@ -25,6 +25,7 @@ clocksIn (Pin n l) = 0
 clocksIn (Clocks n) = n
 clocksIn Reset = 0
 
+-- what events need: answer bytes, and the clocks that they are
 pub record Needs : Type 0 where
   pub answers : ℕ
   pub clocks : ℕ

@@ -25,11 +25,11 @@ use Rattle.play.proofs.performing.perform.Tie as tie
 
 module _ (t : Tally) where
   -- no event was read
-  none : (x : Next) → (tagOf the-type x ≡ 1) ⊎ (tagOf the-type x ≡ 2) → (r : Tally) (A R : List ℕ) → Performs t x r A A R R
-  none (Play e p) (inl h) r A R = absurd (omega arith)
-  none (Play e p) (inr h) r A R = absurd (omega arith)
-  none End h r A R = tt
-  none (Refused q p) h r A R = tt
+  none : (x : Next) → (tagOf the-type x ≡ 1) ⊎ (tagOf the-type x ≡ 2) → (A R : List ℕ) → Performs t x t A A R R
+  none (Play e p) (inl h) A R = absurd (omega arith)
+  none (Play e p) (inr h) A R = absurd (omega arith)
+  none End h A R = (refl, refl, refl)
+  none (Refused q p) h A R = (refl, refl, refl)
 
   module _ (x : Next) (e : Event) (p : ℕ) (read : x ≡ Play e p) where
     allowed : Allowed t x → Counted t mostBits × (clocksIn e ≤ mostClocks)
@@ -44,7 +44,7 @@ enum-known-next c = search needs
 returns : tie.Need-returns
 returns c =
     let a = c .before .before .before .args in
-    none (a .t) (a .next) (c .match .keys2) (a .t) (now (a .answers)) (now (a .row))
+    none (a .t) (a .next) (c .match .keys2) (now (a .answers)) (now (a .row))
 
 enum-known-event : tie.Need-enum-known-event
 enum-known-event c = search needs

@@ -1,5 +1,5 @@
 /* Times the library against the model, built with the same compiler and -O2, in the same run on the same
- * lists. Both start from the same 52 bytes and write them back; the model plays each list twice (once to find
+ * lists. Both start from the same bytes and write them back; the model plays each list twice (once to find
  * the totals), as its own way to write nothing on a refusal.
  *
  *   bench          the table; exit 1 where a target is missed or results differ

@@ -22,6 +22,9 @@
 #define GUARD 32u
 #define NO_EVENT SIZE_MAX
 
+/* The model's fields add up to the size that pit.h states. */
+typedef char size_as_stated[MODEL_DEVICE_SIZE == PIT_DEVICE_SIZE ? 1 : -1];
+
 /* What is being compared, for the report. */
 static struct {
     bool numbered;
@@ -48,33 +51,57 @@ static struct {
 
 /* ---- Names ---- */
 
-static const char *const register_names[MODEL_REGISTERS] = {
-    "PGCR",   "PSRR",        "direction A",  "direction B", "direction C", "PIVR",       "PACR",      "PBCR",
-    "data A", "data B",      "alternate A",  "alternate B", "data C",      "PSR",        "null",      "null",
-    "TCR",    "TIVR",        "null",         "preload high", "preload mid", "preload low", "null",      "count high",
-    "count mid", "count low", "TSR",         "null",        "null",        "null",       "null",      "null"};
+static const char *register_name(unsigned number)
+{
+    static const char *const names[MODEL_REGISTERS] = {
+        [MODEL_PGCR] = "PGCR",
+        [MODEL_PSRR] = "PSRR",
+        [MODEL_DIRECTION_A] = "direction A",
+        [MODEL_DIRECTION_B] = "direction B",
+        [MODEL_DIRECTION_C] = "direction C",
+        [MODEL_PIVR] = "PIVR",
+        [MODEL_PACR] = "PACR",
+        [MODEL_PBCR] = "PBCR",
+        [MODEL_DATA_A] = "data A",
+        [MODEL_DATA_B] = "data B",
+        [MODEL_ALTERNATE_A] = "alternate A",
+        [MODEL_ALTERNATE_B] = "alternate B",
+        [MODEL_DATA_C] = "data C",
+        [MODEL_PSR] = "PSR",
+        [MODEL_TCR] = "TCR",
+        [MODEL_TIVR] = "TIVR",
+        [MODEL_PRELOAD_HIGH] = "preload high",
+        [MODEL_PRELOAD_MID] = "preload mid",
+        [MODEL_PRELOAD_LOW] = "preload low",
+        [MODEL_COUNT_HIGH] = "count high",
+        [MODEL_COUNT_MID] = "count mid",
+        [MODEL_COUNT_LOW] = "count low",
+        [MODEL_TSR] = "TSR",
+    };
 
-static const char *const port_byte_names[13] = {
-    "direction",      "control",  "final latch", "initial latch", "oldest input byte", "second input byte",
-    "bytes held",     "last byte read", "H2 wait", "H2 pulse",    "H2 asserted",       "H1 edge flag",
-    "H2 edge flag"};
+    if (number >= MODEL_REGISTERS) {
+        return "none";
+    }
+    return names[number] != NULL ? names[number] : "null";
+}
 
-static const char *const other_byte_names[23] = {
-    "direction C",  "latch C",    "TCR",        "TIVR",       "preload 0",  "preload 1",  "preload 2",
-    "preload 3",    "count 0",    "count 1",    "count 2",    "count 3",    "prescaler",  "ZDS",
-    "square wave is high", "a load is due", "outside PA", "outside PB", "outside PC", "outside H1",
-    "outside H2",   "outside H3", "outside H4"};
+#define NAMED(kind, place, name) {name, MODEL_WIDTH_##kind},
 
+/* The name of the field that a byte belongs to and, of a number, which of its bytes it is. */
 static void print_byte_name(size_t place)
 {
-    static const char *const first[3] = {"PGCR", "PSRR", "PIVR"};
+    static const struct {
+        const char *name;
+        size_t width;
+    } fields[] = {MODEL_LAYOUT(NAMED)};
+    size_t field = 0;
 
-    if (place < 3) {
-        printf("%s", first[place]);
-    } else if (place < 29) {
-        printf("port %c %s", place < 16 ? 'A' : 'B', port_byte_names[(place - 3) % 13]);
-    } else {
-        printf("%s", other_byte_names[place - 29]);
+    while (place >= fields[field].width) {
+        place -= fields[field++].width;
+    }
+    printf("%s", fields[field].name);
+    if (fields[field].width > 1) {
+        printf(" %zu", place);
     }
 }
 
@@ -82,10 +109,10 @@ static void print_event(const struct model_event *event)
 {
     switch (event->kind) {
     case MODEL_WRITE:
-        printf("write %u (%s) %02X", event->number, register_names[event->number], event->value);
+        printf("write %u (%s) %02X", event->number, register_name(event->number), event->value);
         break;
     case MODEL_READ:
-        printf("read %u (%s)", event->number, register_names[event->number]);
+        printf("read %u (%s)", event->number, register_name(event->number));
         break;
     case MODEL_PORT_ACKNOWLEDGE:
         printf("port acknowledge");
@@ -235,7 +262,7 @@ static void same_device_after_read(unsigned number, const uint8_t *library, cons
 
     model_to_bytes(model, expected);
     if (memcmp(library, expected, PIT_DEVICE_SIZE) != 0) {
-        printf("reading %u (%s) leaves another device\n", number, register_names[number]);
+        printf("reading %u (%s) leaves another device\n", number, register_name(number));
         same_device_bytes("after a read", library, expected);
     }
 }
@@ -254,7 +281,7 @@ static void same_reads(const uint8_t *device, const struct model_device *model)
         found = pit_read(library_copy, PIT_DEVICE_SIZE, number);
         expected = model_read(&model_copy, number);
         if (found != expected) {
-            begin_report("reading %u (%s): library %02" PRIX32 ", model %02X", number, register_names[number], found,
+            begin_report("reading %u (%s): library %02" PRIX32 ", model %02X", number, register_name(number), found,
                          expected);
             end_report();
         }
@@ -633,7 +660,7 @@ static void clock_numbers_wrap(void)
 
 static void compare_outlying(void)
 {
-    static const size_t sizes[] = {0, 1, 51, 53, 104};
+    static const size_t sizes[] = {0, 1, PIT_DEVICE_SIZE - 1, PIT_DEVICE_SIZE + 1, 2 * PIT_DEVICE_SIZE};
     size_t place;
 
     trial.part = "sizes and numbers out of range";
@@ -642,8 +669,8 @@ static void compare_outlying(void)
         wrong_sizes(sizes[place]);
     }
     wrong_totals(0);
-    wrong_totals(3);
-    wrong_totals(5);
+    wrong_totals(PIT_TOTALS - 1);
+    wrong_totals(PIT_TOTALS + 1);
     outlying_numbers();
     clock_numbers_wrap();
 }
@@ -775,7 +802,7 @@ static void compare_file(const char *name)
     model_to_bytes(&fresh, device);
     while (fgets(line, sizeof line, file) != NULL) {
         if (line[0] == 'D' && hex_bytes(name, line + 1, device, sizeof device) != sizeof device) {
-            printf("%s: a device has 52 bytes\n", name);
+            printf("%s: a device has %u bytes\n", name, PIT_DEVICE_SIZE);
             exit(2);
         }
         if (line[0] == 'L') {

@@ -723,16 +723,27 @@ static struct model_device played_device(struct generate_random *random)
 }
 
 /* pit.h: a flag that is neither 0 nor 1 is read as 1. */
+static void spread_flag(struct generate_random *random, uint8_t *byte)
+{
+    if (*byte != 0) {
+        *byte = (uint8_t)(1 + generate_below(random, 255));
+    }
+}
+
+static void spread_byte(struct generate_random *random, uint8_t *byte)
+{
+    (void)random;
+    (void)byte;
+}
+
+#define spread_number spread_byte
+#define SPREAD(kind, place, name)                                                                                    \
+    spread_##kind(random, bytes);                                                                                    \
+    bytes += MODEL_WIDTH_##kind;
+
 static void spread_flags(struct generate_random *random, uint8_t *bytes)
 {
-    static const uint8_t flags[] = {13, 14, 15, 26, 27, 28, 42, 43, 44, 48, 49, 50, 51};
-    size_t place;
-
-    for (place = 0; place < sizeof flags; place++) {
-        if (bytes[flags[place]] != 0) {
-            bytes[flags[place]] = (uint8_t)(1 + generate_below(random, 255));
-        }
-    }
+    MODEL_LAYOUT(SPREAD)
 }
 
 void generate_valid_device(struct generate_random *random, uint8_t *bytes)

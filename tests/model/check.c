@@ -193,8 +193,27 @@ static void check_handshakes(void)
     expect("pulse over", model_level(&device, MODEL_PIN_H1 + 3), false);
 }
 
+/* pit.h's layout: each byte belongs to a field of its own, and nothing else does. */
+static void check_layout(void)
+{
+    size_t place;
+
+    for (place = 0; place < MODEL_DEVICE_SIZE; place++) {
+        uint8_t bytes[MODEL_DEVICE_SIZE] = {0};
+        uint8_t again[MODEL_DEVICE_SIZE];
+        struct model_device device;
+
+        bytes[place] = 1;
+        device = model_from_bytes(bytes);
+        model_to_bytes(&device, again);
+        expect("layout, the byte that comes back", memcmp(again, bytes, sizeof bytes) == 0 ? place : MODEL_DEVICE_SIZE,
+               place);
+    }
+}
+
 int main(void)
 {
+    check_layout();
     check_formats();
     check_openings();
     check_ports();

@@ -1219,106 +1219,61 @@ MODEL_LINKAGE bool model_valid(const struct model_device *device)
     return port_valid(device, 0) && port_valid(device, 1) && timer_valid(device);
 }
 
-/* ---- The 52 bytes ---- */
+/* ---- The device's bytes ---- */
 
-static uint32_t number_from_bytes(const uint8_t *bytes)
+static uint8_t take_byte(const uint8_t **bytes)
 {
-    return (uint32_t)bytes[0] | (uint32_t)bytes[1] << 8 | (uint32_t)bytes[2] << 16 | (uint32_t)bytes[3] << 24;
+    return *(*bytes)++;
 }
 
-static void number_to_bytes(uint32_t number, uint8_t *bytes)
+/* pit.h: "A flag is 0 or 1; any other value is read as 1." */
+static bool take_flag(const uint8_t **bytes)
 {
-    bytes[0] = (uint8_t)number;
-    bytes[1] = (uint8_t)(number >> 8);
-    bytes[2] = (uint8_t)(number >> 16);
-    bytes[3] = (uint8_t)(number >> 24);
+    return take_byte(bytes) != 0;
 }
 
-static void port_from_bytes(struct model_port *port, const uint8_t *bytes)
+static uint32_t take_number(const uint8_t **bytes)
 {
-    port->direction = bytes[0];
-    port->control = bytes[1];
-    port->final = bytes[2];
-    port->initial = bytes[3];
-    port->oldest = bytes[4];
-    port->second = bytes[5];
-    port->held = bytes[6];
-    port->last_read = bytes[7];
-    port->wait = bytes[8];
-    port->pulse = bytes[9];
-    port->asserted = bytes[10] != 0;
-    port->h1_edge = bytes[11] != 0;
-    port->h2_edge = bytes[12] != 0;
+    uint32_t number = take_byte(bytes);
+
+    number |= (uint32_t)take_byte(bytes) << 8;
+    number |= (uint32_t)take_byte(bytes) << 16;
+    number |= (uint32_t)take_byte(bytes) << 24;
+    return number;
 }
 
-static void port_to_bytes(const struct model_port *port, uint8_t *bytes)
+static void give_byte(uint8_t byte, uint8_t **bytes)
 {
-    bytes[0] = port->direction;
-    bytes[1] = port->control;
-    bytes[2] = port->final;
-    bytes[3] = port->initial;
-    bytes[4] = port->oldest;
-    bytes[5] = port->second;
-    bytes[6] = port->held;
-    bytes[7] = port->last_read;
-    bytes[8] = port->wait;
-    bytes[9] = port->pulse;
-    bytes[10] = port->asserted;
-    bytes[11] = port->h1_edge;
-    bytes[12] = port->h2_edge;
+    *(*bytes)++ = byte;
 }
 
-/* The layout is pit.h's; "A flag is 0 or 1; any other value is read as 1." */
+static void give_flag(bool flag, uint8_t **bytes)
+{
+    give_byte(flag, bytes);
+}
+
+static void give_number(uint32_t number, uint8_t **bytes)
+{
+    give_byte((uint8_t)number, bytes);
+    give_byte((uint8_t)(number >> 8), bytes);
+    give_byte((uint8_t)(number >> 16), bytes);
+    give_byte((uint8_t)(number >> 24), bytes);
+}
+
+#define TAKE(kind, place, name) device.place = take_##kind(&bytes);
+#define GIVE(kind, place, name) give_##kind(device->place, &bytes);
+
 MODEL_LINKAGE struct model_device model_from_bytes(const uint8_t *bytes)
 {
     struct model_device device;
-    unsigned hand;
 
-    device.pgcr = bytes[0];
-    device.psrr = bytes[1];
-    device.pivr = bytes[2];
-    port_from_bytes(&device.port[0], bytes + 3);
-    port_from_bytes(&device.port[1], bytes + 16);
-    device.c_direction = bytes[29];
-    device.c_latch = bytes[30];
-    device.tcr = bytes[31];
-    device.tivr = bytes[32];
-    device.preload = number_from_bytes(bytes + 33);
-    device.count = number_from_bytes(bytes + 37);
-    device.prescaler = bytes[41];
-    device.zds = bytes[42] != 0;
-    device.square_high = bytes[43] != 0;
-    device.load_due = bytes[44] != 0;
-    memcpy(device.outside, bytes + 45, 3);
-    for (hand = 0; hand < 4; hand++) {
-        device.outside_hand[hand] = bytes[48 + hand] != 0;
-    }
+    MODEL_LAYOUT(TAKE)
     return device;
 }
 
 MODEL_LINKAGE void model_to_bytes(const struct model_device *device, uint8_t *bytes)
 {
-    unsigned hand;
-
-    bytes[0] = device->pgcr;
-    bytes[1] = device->psrr;
-    bytes[2] = device->pivr;
-    port_to_bytes(&device->port[0], bytes + 3);
-    port_to_bytes(&device->port[1], bytes + 16);
-    bytes[29] = device->c_direction;
-    bytes[30] = device->c_latch;
-    bytes[31] = device->tcr;
-    bytes[32] = device->tivr;
-    number_to_bytes(device->preload, bytes + 33);
-    number_to_bytes(device->count, bytes + 37);
-    bytes[41] = device->prescaler;
-    bytes[42] = device->zds;
-    bytes[43] = device->square_high;
-    bytes[44] = device->load_due;
-    memcpy(bytes + 45, device->outside, 3);
-    for (hand = 0; hand < 4; hand++) {
-        bytes[48 + hand] = device->outside_hand[hand];
-    }
+    MODEL_LAYOUT(GIVE)
 }
 
 /* ---- The event list ---- */

@@ -8,12 +8,13 @@
 #include <stddef.h>
 #include <stdint.h>
 
+#include "fields.h"
+
 /* A file that includes model.c whole makes its functions its own with `static`. */
 #ifndef MODEL_LINKAGE
 #define MODEL_LINKAGE
 #endif
 
-#define MODEL_DEVICE_SIZE 52u
 #define MODEL_LIST_MOST 16384u /* 01, The event list: "at most 16,384 bytes" */
 #define MODEL_PINS 28u
 #define MODEL_REGISTERS 32u
@@ -76,41 +77,29 @@ enum model_refusal {
     MODEL_DEVICE_NOT_VALID = 8
 };
 
+/* What the kinds of fields.h are in a struct, and how many bytes each takes. */
+typedef uint8_t model_byte;
+typedef bool model_flag;
+typedef uint32_t model_number;
+
+enum model_width { MODEL_WIDTH_byte = 1, MODEL_WIDTH_flag = 1, MODEL_WIDTH_number = 4 };
+
+#define MODEL_DECLARED(kind, member, name) model_##kind member;
+#define MODEL_ADDED_WIDTH(kind, place, name) +MODEL_WIDTH_##kind
+
 /* Port A with H1 and H2, or port B with H3 and H4, which are called H1 and H2 here too. */
 struct model_port {
-    uint8_t direction;
-    uint8_t control;
-    uint8_t final;
-    uint8_t initial;
-    uint8_t oldest;
-    uint8_t second;
-    uint8_t held; /* bytes held: input bytes in submode 00, full output latches in 01 */
-    uint8_t last_read;
-    uint8_t wait;
-    uint8_t pulse;
-    bool asserted; /* H2 under 110 */
-    bool h1_edge;
-    bool h2_edge;
+    MODEL_PORT_MEMBERS(MODEL_DECLARED)
 };
 
 struct model_device {
-    uint8_t pgcr;
-    uint8_t psrr;
-    uint8_t pivr;
+    MODEL_MEMBERS(MODEL_DECLARED)
     struct model_port port[2];
-    uint8_t c_direction;
-    uint8_t c_latch;
-    uint8_t tcr;
-    uint8_t tivr;
-    uint32_t preload;
-    uint32_t count;
-    uint8_t prescaler;
-    bool zds;
-    bool square_high;
-    bool load_due;
     uint8_t outside[3];   /* PA, PB, PC */
     bool outside_hand[4]; /* H1 to H4 */
 };
+
+enum { MODEL_DEVICE_SIZE = 0 MODEL_LAYOUT(MODEL_ADDED_WIDTH) };
 
 struct model_event {
     unsigned kind;

@@ -8,6 +8,7 @@
 
 #include "generate.h"
 #include "pit.h"
+#include "writer.h"
 
 #include <inttypes.h>
 #include <stdio.h>
@@ -16,9 +17,8 @@
 
 #define ROUNDS 7
 #define ROUND_SECONDS 0.02
-#define ANSWERS_ROOM 90112u
+#define ANSWERS_ROOM MODEL_ANSWERS_MOST
 #define OPENINGS_ROOM 8192u
-#define CLOCKS_EVENTS_MOST 6898u
 #define SHORT_LISTS 256u
 #define SHORT_SIZE 32u
 
@@ -40,77 +40,20 @@ static int failures;
 
 /* ---- Lists ---- */
 
-struct writer {
-    struct generate_list *list;
-    size_t bits;
-};
-
-static void put(struct writer *writer, uint32_t value, unsigned width)
-{
-    while (width-- > 0) {
-        uint8_t *byte = &writer->list->bytes[writer->bits / 8];
-        unsigned shift = 7 - (unsigned)(writer->bits % 8);
-
-        *byte = (uint8_t)((shift == 7 ? 0 : *byte) | (value >> width & 1u) << shift);
-        writer->bits++;
-    }
-}
-
-static void put_write(struct writer *writer, unsigned number, unsigned value)
-{
-    put(writer, number << 8 | value, 16);
-}
-
-static void put_read(struct writer *writer, unsigned number)
-{
-    put(writer, MODEL_READ << 5 | number, 8);
-}
-
-static void put_pin(struct writer *writer, unsigned pin, unsigned level)
-{
-    put(writer, MODEL_PIN << 6 | pin << 1 | level, 9);
-}
-
-static void put_clocks(struct writer *writer, uint32_t clocks)
-{
-    put(writer, (uint32_t)MODEL_CLOCKS << 16 | (clocks - 1), 19);
-}
-
-static void put_end(struct writer *writer)
-{
-    put(writer, MODEL_END, 3);
-    writer->list->size = (writer->bits + 7) / 8;
-}
-
 static struct writer begin(struct generate_list *list)
 {
-    struct writer writer = {list, 0};
+    struct writer writer = {list->bytes, 0};
 
     return writer;
 }
 
-static bool has_room(const struct writer *writer, unsigned width, size_t bytes)
+/* Three-bit events up to the last byte, and the end: the list's size. */
+static size_t filled_up(struct writer *writer, size_t bytes)
 {
-    return writer->bits + width + 3 <= 8 * bytes;
-}
-
-static void clocks_list(struct generate_list *list, unsigned events)
-{
-    struct writer writer = begin(list);
-
-    while (events-- > 0) {
-        put_clocks(&writer, 65536);
+    while (writer_fits(writer, MODEL_BARE_BITS, bytes)) {
+        writer_bare(writer, MODEL_TIMER_ACKNOWLEDGE);
     }
-    put_end(&writer);
-}
-
-/* Three-bit events up to the last byte, and the end. */
-static void fill_up(struct writer *writer, size_t bytes)
-{
-    while (has_room(writer, 3, bytes)) {
-        put(writer, MODEL_TIMER_ACKNOWLEDGE, 3);
-    }
-    put_end(writer);
+    return writer_end(writer);
 }
 
 /* Writes and reads of every register but the timer's control, and levels at every pin but PC2. */
@@ -118,40 +61,40 @@ static void traffic_list(struct generate_random *random, struct generate_list *l
 {
     struct writer writer = begin(list);
 
-    while (has_room(&writer, 16, bytes)) {
+    while (writer_fits(&writer, MODEL_WRITE_BITS, bytes)) {
         unsigned number = generate_below(random, MODEL_REGISTERS);
         unsigned pin = generate_below(random, MODEL_PINS);
 
         switch (generate_below(random, 3)) {
         case 0:
-            put_write(&writer, number == MODEL_TCR ? MODEL_TIVR : number, generate_below(random, 256));
+            writer_write(&writer, number == MODEL_TCR ? MODEL_TIVR : number, generate_below(random, 256));
             break;
         case 1:
-            put_read(&writer, number);
+            writer_read(&writer, number);
             break;
         default:
-            put_pin(&writer, pin == MODEL_PIN_TIN ? MODEL_PIN_C : pin, generate_below(random, 2));
+            writer_pin(&writer, pin == MODEL_PIN_TIN ? MODEL_PIN_C : pin, generate_below(random, 2));
             break;
         }
     }
-    fill_up(&writer, bytes);
+    list->size = filled_up(&writer, bytes);
 }
 
 /* A byte in through port A and a byte out through port B, each with the clocks its handshake takes. */
 static void transfer(struct writer *writer, unsigned byte)
 {
-    put_pin(writer, byte % 8, byte >> 3 & 1);
-    put_clocks(writer, 4);
-    put_pin(writer, MODEL_PIN_H1, 0);
-    put_pin(writer, MODEL_PIN_H1, 1);
-    put_read(writer, MODEL_DATA_A);
-    put_write(writer, MODEL_DATA_B, byte & 0xFF);
-    put_clocks(writer, 2);
-    put_pin(writer, MODEL_PIN_H1 + 2, 0);
-    put_pin(writer, MODEL_PIN_H1 + 2, 1);
+    writer_pin(writer, byte % 8, byte >> 3 & 1);
+    writer_clocks(writer, 4);
+    writer_pin(writer, MODEL_PIN_H1, 0);
+    writer_pin(writer, MODEL_PIN_H1, 1);
+    writer_read(writer, MODEL_DATA_A);
+    writer_write(writer, MODEL_DATA_B, byte & 0xFF);
+    writer_clocks(writer, 2);
+    writer_pin(writer, MODEL_PIN_H1 + 2, 0);
+    writer_pin(writer, MODEL_PIN_H1 + 2, 1);
 }
 
-#define TRANSFER_BITS (5 * 9 + 2 * 19 + 8 + 16)
+#define TRANSFER_BITS (5 * MODEL_PIN_BITS + 2 * MODEL_CLOCKS_BITS + MODEL_READ_BITS + MODEL_WRITE_BITS)
 
 /* Interlocked first, pulsed from the middle on. */
 static void handshake_list(struct generate_list *list, size_t bytes)
@@ -159,19 +102,19 @@ static void handshake_list(struct generate_list *list, size_t bytes)
     struct writer writer = begin(list);
     unsigned byte = 0;
 
-    put_write(&writer, MODEL_DIRECTION_B, 0xFF);
-    put_write(&writer, MODEL_PACR, 0x30);
-    put_write(&writer, MODEL_PBCR, 0x70);
-    put_write(&writer, MODEL_PGCR, 0x30);
-    while (has_room(&writer, TRANSFER_BITS, bytes / 2)) {
+    writer_write(&writer, MODEL_DIRECTION_B, 0xFF);
+    writer_write(&writer, MODEL_PACR, 0x30);
+    writer_write(&writer, MODEL_PBCR, 0x70);
+    writer_write(&writer, MODEL_PGCR, 0x30);
+    while (writer_fits(&writer, TRANSFER_BITS, bytes / 2)) {
         transfer(&writer, byte++);
     }
-    put_write(&writer, MODEL_PACR, 0x38);
-    put_write(&writer, MODEL_PBCR, 0x78);
-    while (has_room(&writer, TRANSFER_BITS, bytes)) {
+    writer_write(&writer, MODEL_PACR, 0x38);
+    writer_write(&writer, MODEL_PBCR, 0x78);
+    while (writer_fits(&writer, TRANSFER_BITS, bytes)) {
         transfer(&writer, byte++);
     }
-    fill_up(&writer, bytes);
+    list->size = filled_up(&writer, bytes);
 }
 
 /* Thirty-two bytes: set up, a few transfers and reads, and some clocks of the timer. */
@@ -179,24 +122,24 @@ static void short_list(struct generate_random *random, struct generate_list *lis
 {
     struct writer writer = begin(list);
 
-    put_write(&writer, MODEL_PRELOAD_LOW, generate_below(random, 4));
-    put_write(&writer, MODEL_TCR, 0x01);
-    put_write(&writer, MODEL_PGCR, 0x30);
-    put_clocks(&writer, 1 + generate_below(random, 16));
-    while (has_room(&writer, 16, SHORT_SIZE)) {
+    writer_write(&writer, MODEL_PRELOAD_LOW, generate_below(random, 4));
+    writer_write(&writer, MODEL_TCR, 0x01);
+    writer_write(&writer, MODEL_PGCR, 0x30);
+    writer_clocks(&writer, 1 + generate_below(random, 16));
+    while (writer_fits(&writer, MODEL_WRITE_BITS, SHORT_SIZE)) {
         switch (generate_below(random, 3)) {
         case 0:
-            put_write(&writer, MODEL_DATA_B, generate_below(random, 256));
+            writer_write(&writer, MODEL_DATA_B, generate_below(random, 256));
             break;
         case 1:
-            put_read(&writer, generate_below(random, MODEL_REGISTERS));
+            writer_read(&writer, generate_below(random, MODEL_REGISTERS));
             break;
         default:
-            put_pin(&writer, generate_below(random, MODEL_PINS), generate_below(random, 2));
+            writer_pin(&writer, generate_below(random, MODEL_PINS), generate_below(random, 2));
             break;
         }
     }
-    fill_up(&writer, SHORT_SIZE);
+    list->size = filled_up(&writer, SHORT_SIZE);
 }
 
 /* A device with the timer running on the clock from this preload. */
@@ -353,17 +296,17 @@ static void table_of_clocks(void)
 {
     begin_work("a", "6,898 clocks events of 65,536; model: 64 of them, scaled", 1000);
     timer_device(work.device, 0x10000); /* 215 openings */
-    clocks_list(&work.list[0], CLOCKS_EVENTS_MOST);
-    clocks_list(&work.part, 64);
-    work.model_portion = 64.0 / CLOCKS_EVENTS_MOST;
+    generate_clocks_list(&work.list[0], MODEL_CLOCKS_EVENTS_MOST);
+    generate_clocks_list(&work.part, 64);
+    work.model_portion = 64.0 / MODEL_CLOCKS_EVENTS_MOST;
     print_row();
     begin_work("b1", "8,192 openings at preload 1 (8 clocks events)", 2);
     timer_device(work.device, 1);
-    clocks_list(&work.list[0], 8);
+    generate_clocks_list(&work.list[0], 8);
     print_row();
     begin_work("b2", "8,192 openings at preload 255 (1,024 clocks events)", 100);
     timer_device(work.device, 255);
-    clocks_list(&work.list[0], 1024);
+    generate_clocks_list(&work.list[0], 1024);
     print_row();
 }
 
@@ -422,14 +365,14 @@ static int print_all_growth(void)
     for (part = 1; part <= 8; part *= 2) {
         begin_work("openings", "", 0);
         timer_device(work.device, 1);
-        clocks_list(&work.list[0], part);
+        generate_clocks_list(&work.list[0], part);
         print_growth("openings", 1024.0 * part);
     }
     for (part = 1; part <= 16; part *= 2) {
         begin_work("clocks", "", 0);
         timer_device(work.device, 0xFFFFFF);
-        clocks_list(&work.list[0], CLOCKS_EVENTS_MOST * part / 16);
-        print_growth("clocks", 65536.0 * (CLOCKS_EVENTS_MOST * part / 16));
+        generate_clocks_list(&work.list[0], MODEL_CLOCKS_EVENTS_MOST * part / 16);
+        print_growth("clocks", (double)MODEL_CLOCKS_MOST * (MODEL_CLOCKS_EVENTS_MOST * part / 16));
     }
     return 0;
 }

@@ -9,6 +9,7 @@
  * device must be equal; whole lists, well-formed and damaged, must be equal through pit_play, with what was
  * lent past the used part. Stops at the first difference with exit 1. */
 #include "generate.h"
+#include "hex.h"
 #include "pit.h"
 
 #include <inttypes.h>
@@ -17,7 +18,7 @@
 #include <stdlib.h>
 #include <string.h>
 
-#define ANSWERS_ROOM 90112u /* a list of acknowledges alone has 87,380 answer bytes */
+#define ANSWERS_ROOM MODEL_ANSWERS_MOST
 #define OPENINGS_ROOM 65536u
 #define GUARD 32u
 #define NO_EVENT SIZE_MAX
@@ -133,17 +134,6 @@ static void print_event(const struct model_event *event)
         printf("end");
         break;
     }
-}
-
-static void print_hex(const char *mark, const uint8_t *bytes, size_t size)
-{
-    size_t place;
-
-    printf("%s", mark);
-    for (place = 0; place < size; place++) {
-        printf(" %02X", bytes[place]);
-    }
-    printf("\n");
 }
 
 /* ---- The report of a difference ---- */
@@ -690,25 +680,6 @@ static struct model_device long_device(uint32_t preload, uint8_t tcr)
     return model;
 }
 
-/* The longest list: 6,898 clocks events of 65,536 clocks, 7 fill bits. */
-static void longest_clocks(struct generate_list *list)
-{
-    size_t event;
-
-    memset(list->bytes, 0, MODEL_LIST_MOST);
-    list->size = MODEL_LIST_MOST;
-    for (event = 0; event < 6899; event++) {
-        size_t position = 19 * event;
-        unsigned place;
-
-        for (place = 0; place < (event == 6898 ? 3u : 19u); place++, position++) {
-            if (event == 6898 || place != 1) {
-                list->bytes[position / 8] |= (uint8_t)(0x80u >> position % 8);
-            }
-        }
-    }
-}
-
 static void compare_long(void)
 {
     static const uint32_t preloads[] = {0x7FFFFF, 0x10000, 0x5000};
@@ -718,7 +689,7 @@ static void compare_long(void)
     struct model_device model;
     size_t place;
 
-    longest_clocks(&list);
+    generate_clocks_list(&list, MODEL_CLOCKS_EVENTS_MOST);
     trial.list = &list;
     trial.device = device;
     for (place = 0; place < sizeof preloads / sizeof preloads[0]; place++) {

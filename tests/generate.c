@@ -2,10 +2,9 @@
  * part is in: clocks that end just before, at or just after a wait, a pulse, a count or an opening; edges that
  * are edges; writes in the middle of a handshake. */
 #include "generate.h"
+#include "writer.h"
 
 #include <string.h>
-
-#define END_BITS 3u
 
 /* ---- Numbers ---- */
 
@@ -125,55 +124,35 @@ static uint8_t telling_pgcr(struct generate_random *random)
 struct builder {
     struct generate_random *random;
     struct model_device device;
-    struct generate_list *list;
-    size_t bits;
+    struct writer writer;
     uint32_t clocks_left;
 };
 
-static void put(struct builder *builder, uint32_t value, unsigned width)
+static bool has_room(const struct builder *builder, unsigned bits)
 {
-    while (width-- > 0) {
-        uint8_t *byte = &builder->list->bytes[builder->bits / 8];
-        unsigned shift = 7 - (unsigned)(builder->bits % 8);
-
-        if (shift == 7) {
-            *byte = 0;
-        }
-        *byte |= (uint8_t)((value >> width & 1u) << shift);
-        builder->bits++;
-    }
-}
-
-static bool has_room(const struct builder *builder, unsigned width)
-{
-    return builder->bits + width + END_BITS <= 8 * (size_t)MODEL_LIST_MOST;
+    return writer_fits(&builder->writer, bits, MODEL_LIST_MOST);
 }
 
 static void put_write(struct builder *builder, unsigned number, uint8_t value)
 {
-    if (has_room(builder, 16)) {
-        put(builder, MODEL_WRITE, 3);
-        put(builder, number, 5);
-        put(builder, value, 8);
+    if (has_room(builder, MODEL_WRITE_BITS)) {
+        writer_write(&builder->writer, number, value);
         model_write(&builder->device, number, value);
     }
 }
 
 static void put_read(struct builder *builder, unsigned number)
 {
-    if (has_room(builder, 8)) {
-        put(builder, MODEL_READ, 3);
-        put(builder, number, 5);
+    if (has_room(builder, MODEL_READ_BITS)) {
+        writer_read(&builder->writer, number);
         (void)model_read(&builder->device, number);
     }
 }
 
 static void put_pin(struct builder *builder, unsigned pin, bool level)
 {
-    if (has_room(builder, 9)) {
-        put(builder, MODEL_PIN, 3);
-        put(builder, pin, 5);
-        put(builder, level, 1);
+    if (has_room(builder, MODEL_PIN_BITS)) {
+        writer_pin(&builder->writer, pin, level);
         (void)model_pin(&builder->device, pin, level);
     }
 }
@@ -182,11 +161,11 @@ static void put_clocks(struct builder *builder, uint32_t clocks)
 {
     uint32_t passed;
 
-    if (clocks == 0 || clocks > 65536 || clocks > builder->clocks_left || !has_room(builder, 19)) {
+    if (clocks == 0 || clocks > MODEL_CLOCKS_MOST || clocks > builder->clocks_left ||
+        !has_room(builder, MODEL_CLOCKS_BITS)) {
         return;
     }
-    put(builder, MODEL_CLOCKS, 3);
-    put(builder, clocks - 1, 16);
+    writer_clocks(&builder->writer, clocks);
     builder->clocks_left -= clocks;
     for (passed = 0; passed < clocks; passed++) {
         (void)model_clock(&builder->device);
@@ -195,18 +174,12 @@ static void put_clocks(struct builder *builder, uint32_t clocks)
 
 static void put_bare(struct builder *builder, enum model_kind kind)
 {
-    if (has_room(builder, 3)) {
-        put(builder, kind, 3);
+    if (has_room(builder, MODEL_BARE_BITS)) {
+        writer_bare(&builder->writer, kind);
         if (kind == MODEL_RESET) {
             model_reset(&builder->device);
         }
     }
-}
-
-static void put_end(struct builder *builder)
-{
-    put(builder, MODEL_END, 3);
-    builder->list->size = (builder->bits + 7) / 8;
 }
 
 /* ---- Actions: a few events that belong together ---- */
@@ -572,8 +545,8 @@ static struct builder begin_list(struct generate_random *random, const uint8_t *
 
     builder.random = random;
     builder.device = model_from_bytes(device);
-    builder.list = list;
-    builder.bits = 0;
+    builder.writer.bytes = list->bytes;
+    builder.writer.bits = 0;
     builder.clocks_left = clocks_allowed(random);
     return builder;
 }
@@ -586,7 +559,7 @@ void generate_list(struct generate_random *random, const uint8_t *device, struct
     while (actions-- > 0) {
         act(&builder);
     }
-    put_end(&builder);
+    list->size = writer_end(&builder.writer);
 }
 
 void generate_longest_list(struct generate_random *random, struct generate_list *list)
@@ -600,10 +573,20 @@ void generate_longest_list(struct generate_random *random, struct generate_list 
     while (has_room(&builder, 200)) {
         act(&builder);
     }
-    while (has_room(&builder, 3) && !one_in(random, 64)) {
+    while (has_room(&builder, MODEL_BARE_BITS) && !one_in(random, 64)) {
         put_bare(&builder, MODEL_PORT_ACKNOWLEDGE);
     }
-    put_end(&builder);
+    list->size = writer_end(&builder.writer);
+}
+
+void generate_clocks_list(struct generate_list *list, unsigned events)
+{
+    struct writer writer = {list->bytes, 0};
+
+    while (events-- > 0) {
+        writer_clocks(&writer, MODEL_CLOCKS_MOST);
+    }
+    list->size = writer_end(&writer);
 }
 
 /* ---- Devices ---- */
@@ -1031,20 +1014,16 @@ static size_t any_event(struct generate_random *random, const struct generate_li
 static void continue_with(struct generate_random *random, struct generate_list *list, uint32_t value,
                           unsigned width)
 {
-    struct builder builder;
-    size_t bits = any_event(random, list);
+    struct writer writer = {list->bytes, any_event(random, list)};
 
-    memset(&builder, 0, sizeof builder);
-    builder.list = list;
-    if (bits + width > 8 * (size_t)MODEL_LIST_MOST) {
-        bits = 0;
+    if (writer.bits + width > 8 * (size_t)MODEL_LIST_MOST) {
+        writer.bits = 0;
     }
-    if (bits % 8 != 0) {
-        list->bytes[bits / 8] &= (uint8_t)(0xFF00u >> bits % 8);
+    if (writer.bits % 8 != 0) {
+        list->bytes[writer.bits / 8] &= (uint8_t)(0xFF00u >> writer.bits % 8);
     }
-    builder.bits = bits;
-    put(&builder, value, width);
-    list->size = (builder.bits + 7) / 8;
+    writer_put(&writer, value, width);
+    list->size = (writer.bits + 7) / 8;
 }
 
 static void add_bytes(struct generate_random *random, struct generate_list *list)

@@ -39,6 +39,9 @@ void generate_list(struct generate_random *random, const uint8_t *device, struct
 /* A well-formed list of about 16,384 bytes, at times of exactly that many. */
 void generate_longest_list(struct generate_random *random, struct generate_list *list);
 
+/* So many clocks events, of 65,536 clocks each. */
+void generate_clocks_list(struct generate_list *list, unsigned events);
+
 /* A list made from an intact one by cutting, flipping, adding or replacing. */
 void generate_damaged_list(struct generate_random *random, const struct generate_list *intact,
                            struct generate_list *list);

@@ -1,21 +1,11 @@
 /* Prints generated lists and the devices they are for, in the form of tests/regressions.
  *   samples COUNT SEED [--damaged] */
 #include "generate.h"
+#include "hex.h"
 
 #include <stdio.h>
 #include <stdlib.h>
 #include <string.h>
-
-static void print_hex(char mark, const uint8_t *bytes, size_t size)
-{
-    size_t place;
-
-    printf("%c", mark);
-    for (place = 0; place < size; place++) {
-        printf(" %02X", bytes[place]);
-    }
-    printf("\n");
-}
 
 int main(int argument_count, char **arguments)
 {
@@ -35,8 +25,8 @@ int main(int argument_count, char **arguments)
         generate_valid_device(&random, device);
         generate_list(&random, device, &list);
         generate_damaged_list(&random, &list, &damaged);
-        print_hex('D', device, sizeof device);
-        print_hex('L', damage ? damaged.bytes : list.bytes, damage ? damaged.size : list.size);
+        print_hex("D", device, sizeof device);
+        print_hex("L", damage ? damaged.bytes : list.bytes, damage ? damaged.size : list.size);
     }
     return 0;
 }

@@ -4,7 +4,8 @@
 
 WARNINGS="-std=c99 -Wall -Wextra -Werror"
 BUILD=target/tests
-LIBRARY=${PIT_LIBRARY:-target/staticlib/libpit_c.a}
+LIBRARY=${PIT_LIBRARY:-target/staticlib/libpit_c.a} # `standin`: the model's own stand-in, tests/standin.c
+GENERATOR=(tests/generate.c tests/model/model.c)    # what every program with generated lists is made of
 
 # need PROGRAM PACKAGE...: installs Debian packages where the program is missing.
 need() {
@@ -46,6 +47,11 @@ library() {
 # For programs that are linked with the library.
 pick_for_library() {
     library
+    if [ "$LIBRARY" = standin ]; then
+        LIBRARY=tests/standin.c
+        pick_native
+        return
+    fi
     if [ "$(uname -m)" = x86_64 ]; then
         pick_native
         return

@@ -1294,7 +1294,16 @@ static uint32_t field(const uint8_t *list, size_t position, unsigned width)
 MODEL_LINKAGE unsigned model_next_event(const uint8_t *list, size_t size, size_t position,
                                         struct model_event *event, size_t *after)
 {
-    static const uint8_t width[8] = {16, 8, 3, 3, 9, 19, 3, 3};
+    static const uint8_t width[] = {
+        [MODEL_WRITE] = MODEL_WRITE_BITS,
+        [MODEL_READ] = MODEL_READ_BITS,
+        [MODEL_PORT_ACKNOWLEDGE] = MODEL_BARE_BITS,
+        [MODEL_TIMER_ACKNOWLEDGE] = MODEL_BARE_BITS,
+        [MODEL_PIN] = MODEL_PIN_BITS,
+        [MODEL_CLOCKS] = MODEL_CLOCKS_BITS,
+        [MODEL_RESET] = MODEL_BARE_BITS,
+        [MODEL_END] = MODEL_BARE_BITS,
+    };
     size_t remain = 8 * size - position;
 
     memset(event, 0, sizeof *event);

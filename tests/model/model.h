@@ -16,6 +16,9 @@
 #endif
 
 #define MODEL_LIST_MOST 16384u /* 01, The event list: "at most 16,384 bytes" */
+#define MODEL_CLOCKS_MOST 65536u /* of one event */
+#define MODEL_CLOCKS_EVENTS_MOST ((8 * MODEL_LIST_MOST - MODEL_BARE_BITS) / MODEL_CLOCKS_BITS)
+#define MODEL_ANSWERS_MOST (2 * ((8 * MODEL_LIST_MOST - MODEL_BARE_BITS) / MODEL_BARE_BITS)) /* acknowledges alone */
 #define MODEL_PINS 28u
 #define MODEL_REGISTERS 32u
 #define MODEL_SILENT 0x100u /* an acknowledge the part does not respond to */
@@ -63,6 +66,15 @@ enum model_kind {
     MODEL_CLOCKS = 5,
     MODEL_RESET = 6,
     MODEL_END = 7
+};
+
+/* The bits of an event, its kind and its fields. */
+enum model_bits {
+    MODEL_WRITE_BITS = 3 + 5 + 8,
+    MODEL_READ_BITS = 3 + 5,
+    MODEL_PIN_BITS = 3 + 5 + 1,
+    MODEL_CLOCKS_BITS = 3 + 16,
+    MODEL_BARE_BITS = 3 /* acknowledges, reset and end */
 };
 
 enum model_refusal {

@@ -22,6 +22,7 @@
 #define OPENINGS_ROOM 65536u
 #define GUARD 32u
 #define NO_EVENT SIZE_MAX
+#define REFUSALS_ROOM 32u /* 01 and the change requests give numbers up to 14 */
 
 /* The model's fields add up to the size that pit.h states. */
 typedef char size_as_stated[MODEL_DEVICE_SIZE == PIT_DEVICE_SIZE ? 1 : -1];
@@ -47,7 +48,7 @@ static struct {
     uint64_t clocks;
     uint64_t openings;
     uint64_t plays;
-    uint64_t refusals[9];
+    uint64_t refusals[REFUSALS_ROOM];
 } counts;
 
 /* ---- Names ---- */
@@ -436,6 +437,16 @@ static void same_filling(const struct generate_rooms *rooms)
     }
 }
 
+/* Both gave this refusal; one that can't be counted is one that 01 doesn't know. */
+static void count_refusal(unsigned refusal)
+{
+    if (refusal >= REFUSALS_ROOM) {
+        begin_report("refusal %u, of both: numbers under %u are counted", refusal, REFUSALS_ROOM);
+        end_report();
+    }
+    counts.refusals[refusal]++;
+}
+
 static struct model_totals compare_play(const uint8_t *handed, const struct generate_list *list,
                                         struct generate_rooms rooms)
 {
@@ -467,7 +478,7 @@ static struct model_totals compare_play(const uint8_t *handed, const struct gene
         same_filling(&rooms);
     }
     counts.plays++;
-    counts.refusals[refusal]++;
+    count_refusal(refusal);
     return expected;
 }
 
@@ -786,15 +797,26 @@ static void compare_file(const char *name)
 
 /* ---- The program ---- */
 
+/* The last number that the model knows, or that was given all the same. */
+static unsigned last_refusal(void)
+{
+    unsigned last = REFUSALS_ROOM - 1;
+
+    while (last >= MODEL_REFUSALS && counts.refusals[last] == 0) {
+        last--;
+    }
+    return last;
+}
+
 static void print_summary(void)
 {
     unsigned refusal;
 
     printf("no difference: %" PRIu64 " lists, %" PRIu64 " devices (%" PRIu64 " not valid), %" PRIu64
-           " single events, %" PRIu64 " clocks, %" PRIu64 " openings, %" PRIu64 " plays; refusals 0-8:",
+           " single events, %" PRIu64 " clocks, %" PRIu64 " openings, %" PRIu64 " plays; refusals 0-%u:",
            counts.lists, counts.devices, counts.invalid_devices, counts.events, counts.clocks, counts.openings,
-           counts.plays);
-    for (refusal = 0; refusal < 9; refusal++) {
+           counts.plays, last_refusal());
+    for (refusal = 0; refusal <= last_refusal(); refusal++) {
         printf(" %" PRIu64, counts.refusals[refusal]);
     }
     printf("\n");

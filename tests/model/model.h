@@ -86,7 +86,8 @@ enum model_refusal {
     MODEL_BYTE_AFTER_END = 5,
     MODEL_ANSWERS_TOO_FEW = 6,
     MODEL_OPENINGS_TOO_FEW = 7,
-    MODEL_DEVICE_NOT_VALID = 8
+    MODEL_DEVICE_NOT_VALID = 8,
+    MODEL_REFUSALS /* one more than the last */
 };
 
 /* What the kinds of fields.h are in a struct, and how many bytes each takes. */

@@ -5,12 +5,9 @@
 #include <stdio.h>
 #include <string.h>
 
-#define ANSWERS_ROOM 32768
-#define OPENINGS_ROOM 8192
-
 static int failures;
-static uint8_t answers[ANSWERS_ROOM];
-static uint32_t openings[OPENINGS_ROOM];
+static uint8_t answers[MODEL_RUN_ANSWERS];
+static uint32_t openings[MODEL_RUN_OPENINGS];
 static struct model_totals totals;
 
 static void expect(const char *what, uint64_t found, uint64_t expected)
@@ -23,14 +20,14 @@ static void expect(const char *what, uint64_t found, uint64_t expected)
 
 static unsigned play(struct model_device *device, const uint8_t *list, size_t size, size_t openings_room)
 {
-    return model_play(device, list, size, answers, ANSWERS_ROOM, openings, openings_room, &totals);
+    return model_play(device, list, size, answers, MODEL_RUN_ANSWERS, openings, openings_room, &totals);
 }
 
 static void expect_refusal(const char *what, const uint8_t *list, size_t size, unsigned refusal, uint64_t place)
 {
     struct model_device device = model_fresh();
 
-    expect(what, play(&device, list, size, OPENINGS_ROOM), refusal);
+    expect(what, play(&device, list, size, MODEL_RUN_OPENINGS), refusal);
     expect(what, totals.place, place);
     expect(what, totals.answers + totals.openings + totals.clocks, 0);
 }
@@ -64,7 +61,7 @@ static void check_formats(void)
     struct model_device device = model_fresh();
 
     expect_refusal("P1", end, 0, MODEL_CUT_SHORT, 0);
-    expect("P2", play(&device, end, 1, OPENINGS_ROOM), MODEL_ACCEPTED);
+    expect("P2", play(&device, end, 1, MODEL_RUN_OPENINGS), MODEL_ACCEPTED);
     expect_refusal("P3", fill, 1, MODEL_FILL_NOT_ZERO, 3);
     expect_refusal("P4", further, 2, MODEL_BYTE_AFTER_END, 8);
     expect_refusal("P5", pin_28, 2, MODEL_NO_SUCH_PIN, 0);
@@ -125,7 +122,7 @@ static void check_program_example(void)
     static const uint8_t list[] = {0x15, 0x01, 0x10, 0x01, 0xA0, 0x0F, 0xE7, 0x5C};
     struct model_device device = model_fresh();
 
-    expect("example", play(&device, list, sizeof list, OPENINGS_ROOM), MODEL_ACCEPTED);
+    expect("example", play(&device, list, sizeof list, MODEL_RUN_OPENINGS), MODEL_ACCEPTED);
     expect("example answers", totals.answers, 2);
     expect("example responds", answers[0], 1);
     expect("example answer", answers[1], 0x01);

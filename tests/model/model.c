@@ -1337,15 +1337,7 @@ MODEL_LINKAGE unsigned model_next_event(const uint8_t *list, size_t size, size_t
     return MODEL_ACCEPTED;
 }
 
-/* What one pass over a list makes; the rows are null in the first pass, which only finds the totals. */
-struct pass {
-    struct model_device device;
-    struct model_totals totals;
-    uint8_t *answers;
-    uint32_t *openings;
-};
-
-static void record_answer(struct pass *pass, unsigned answer)
+static void record_answer(struct model_pass *pass, unsigned answer)
 {
     if (pass->answers != NULL) {
         pass->answers[pass->totals.answers] = answer != MODEL_SILENT;
@@ -1355,7 +1347,7 @@ static void record_answer(struct pass *pass, unsigned answer)
 }
 
 /* 01, The event list: "an opening caused between clocks carries the number passed so far". */
-static void record_opening(struct pass *pass)
+static void record_opening(struct model_pass *pass)
 {
     if (pass->openings != NULL) {
         pass->openings[pass->totals.openings] = (uint32_t)pass->totals.clocks;
@@ -1363,7 +1355,7 @@ static void record_opening(struct pass *pass)
     pass->totals.openings++;
 }
 
-static void play_clocks(struct pass *pass, uint32_t clocks)
+static void play_clocks(struct model_pass *pass, uint32_t clocks)
 {
     uint32_t passed;
 
@@ -1376,7 +1368,7 @@ static void play_clocks(struct pass *pass, uint32_t clocks)
 }
 
 /* 01, Interrupts: an acknowledge "clears nothing". */
-static void play_acknowledge(struct pass *pass, bool of_port)
+static void play_acknowledge(struct model_pass *pass, bool of_port)
 {
     if (of_port) {
         record_answer(pass, model_port_acknowledge(&pass->device));
@@ -1391,7 +1383,7 @@ static void play_acknowledge(struct pass *pass, bool of_port)
     }
 }
 
-static void play_event(struct pass *pass, const struct model_event *event)
+MODEL_LINKAGE void model_play_event(struct model_pass *pass, const struct model_event *event)
 {
     switch (event->kind) {
     case MODEL_WRITE:
@@ -1447,7 +1439,7 @@ static unsigned judge_ending(const uint8_t *list, size_t size, size_t after, siz
 }
 
 /* Plays events up to the end mark. */
-static unsigned play_events(struct pass *pass, const uint8_t *list, size_t size)
+static unsigned play_events(struct model_pass *pass, const uint8_t *list, size_t size)
 {
     struct model_event event;
     size_t position = 0;
@@ -1466,13 +1458,13 @@ static unsigned play_events(struct pass *pass, const uint8_t *list, size_t size)
             pass->totals.place = place;
             return refusal;
         }
-        play_event(pass, &event);
+        model_play_event(pass, &event);
         position = after;
     }
 }
 
 /* Numbers 1 to 7 in their order: "then 1, then 2 and 3 event by event, then 4, 5, 6, 7". Fills the totals. */
-static unsigned judge_list(struct pass *pass, const uint8_t *list, size_t list_size, size_t answers_size,
+static unsigned judge_list(struct model_pass *pass, const uint8_t *list, size_t list_size, size_t answers_size,
                            size_t openings_count)
 {
     unsigned refusal;
@@ -1499,9 +1491,10 @@ static unsigned judge_list(struct pass *pass, const uint8_t *list, size_t list_s
     return MODEL_ACCEPTED;
 }
 
-static struct pass begin_pass(const struct model_device *device, uint8_t *answers, uint32_t *openings)
+MODEL_LINKAGE struct model_pass model_begin_pass(const struct model_device *device, uint8_t *answers,
+                                                 uint32_t *openings)
 {
-    struct pass pass;
+    struct model_pass pass;
 
     memset(&pass, 0, sizeof pass);
     pass.device = *device;
@@ -1510,12 +1503,13 @@ static struct pass begin_pass(const struct model_device *device, uint8_t *answer
     return pass;
 }
 
-/* Two passes: the first, on a copy, finds refusal and totals, so that a refused call writes nothing. */
+/* Two passes: the first, on a copy and without rows, finds refusal and totals, so that a refused call writes
+ * nothing. */
 MODEL_LINKAGE unsigned model_play(struct model_device *device, const uint8_t *list, size_t list_size,
                                   uint8_t *answers, size_t answers_size, uint32_t *openings,
                                   size_t openings_count, struct model_totals *totals)
 {
-    struct pass pass = begin_pass(device, NULL, NULL);
+    struct model_pass pass = model_begin_pass(device, NULL, NULL);
     unsigned refusal = MODEL_DEVICE_NOT_VALID;
 
     if (model_valid(device) || (MISREAD(71) && list_size > MODEL_LIST_MOST)) {
@@ -1528,7 +1522,7 @@ MODEL_LINKAGE unsigned model_play(struct model_device *device, const uint8_t *li
         return refusal;
     }
     HIT("accepted");
-    pass = begin_pass(device, answers, openings);
+    pass = model_begin_pass(device, answers, openings);
     (void)play_events(&pass, list, list_size);
     *totals = pass.totals;
     *device = pass.device;

@@ -19,6 +19,8 @@
 #define MODEL_CLOCKS_MOST 65536u /* of one event */
 #define MODEL_CLOCKS_EVENTS_MOST ((8 * MODEL_LIST_MOST - MODEL_BARE_BITS) / MODEL_CLOCKS_BITS)
 #define MODEL_ANSWERS_MOST (2 * ((8 * MODEL_LIST_MOST - MODEL_BARE_BITS) / MODEL_BARE_BITS)) /* acknowledges alone */
+#define MODEL_RUN_ANSWERS 32768u /* 01, Lists to try: pit-run "lends 32,768 answer bytes and 8,192 openings" */
+#define MODEL_RUN_OPENINGS 8192u
 #define MODEL_PINS 28u
 #define MODEL_REGISTERS 32u
 #define MODEL_SILENT 0x100u /* an acknowledge the part does not respond to */
@@ -128,6 +130,14 @@ struct model_totals {
     uint64_t clocks;
 };
 
+/* What one pass over a list makes; a row that is null is not written. */
+struct model_pass {
+    struct model_device device;
+    struct model_totals totals;
+    uint8_t *answers;
+    uint32_t *openings;
+};
+
 MODEL_LINKAGE struct model_device model_fresh(void);
 MODEL_LINKAGE struct model_device model_from_bytes(const uint8_t *bytes);
 MODEL_LINKAGE void model_to_bytes(const struct model_device *device, uint8_t *bytes);
@@ -150,6 +160,11 @@ MODEL_LINKAGE bool model_level(const struct model_device *device, unsigned pin);
 /* Takes the event at `position` apart: 0 with the event and the position after it, or refusal 2 or 3. */
 MODEL_LINKAGE unsigned model_next_event(const uint8_t *list, size_t size, size_t position,
                                         struct model_event *event, size_t *after);
+
+/* A pass that begins with this device, and one event of it, which is not the end mark. */
+MODEL_LINKAGE struct model_pass model_begin_pass(const struct model_device *device, uint8_t *answers,
+                                                 uint32_t *openings);
+MODEL_LINKAGE void model_play_event(struct model_pass *pass, const struct model_event *event);
 
 /* Plays a list; see document 01, The event list. On a refusal nothing but `totals` is written. */
 MODEL_LINKAGE unsigned model_play(struct model_device *device, const uint8_t *list, size_t list_size,

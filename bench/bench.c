@@ -127,6 +127,8 @@ static void short_list(struct generate_random *random, struct generate_list *lis
     writer_write(&writer, MODEL_PGCR, 0x30);
     writer_clocks(&writer, 1 + generate_below(random, 16));
     while (writer_fits(&writer, MODEL_WRITE_BITS, SHORT_SIZE)) {
+        unsigned pin = generate_below(random, MODEL_PINS);
+
         switch (generate_below(random, 3)) {
         case 0:
             writer_write(&writer, MODEL_DATA_B, generate_below(random, 256));
@@ -135,7 +137,7 @@ static void short_list(struct generate_random *random, struct generate_list *lis
             writer_read(&writer, generate_below(random, MODEL_REGISTERS));
             break;
         default:
-            writer_pin(&writer, generate_below(random, MODEL_PINS), generate_below(random, 2));
+            writer_pin(&writer, pin, generate_below(random, 2));
             break;
         }
     }

@@ -8,6 +8,9 @@
 
 /* ---- Numbers ---- */
 
+/* No two draws stand in one expression where C leaves their order to the compiler, so that a seed and a number give
+ * the same on every machine. */
+
 /* Splitmix64. */
 static uint64_t next_random(struct generate_random *random)
 {
@@ -241,12 +244,20 @@ static void asserted_edge(struct builder *builder, unsigned hand)
     put_pin(builder, MODEL_PIN_H1 + hand, asserted);
 }
 
+/* Any level at one of so many pins. */
+static void put_any_level(struct builder *builder, unsigned first, unsigned many)
+{
+    unsigned pin = first + generate_below(builder->random, many);
+
+    put_pin(builder, pin, one_in(builder->random, 2));
+}
+
 static void act_h1_edge(struct builder *builder)
 {
     unsigned which = any_port(builder);
 
     if (one_in(builder->random, 2)) {
-        put_pin(builder, 8 * which + generate_below(builder->random, 8), one_in(builder->random, 2));
+        put_any_level(builder, 8 * which, 8);
     }
     asserted_edge(builder, 2 * which);
 }
@@ -261,7 +272,7 @@ static void act_pins(struct builder *builder)
     unsigned many = 1 + generate_below(builder->random, 4);
 
     while (many-- > 0) {
-        put_pin(builder, generate_below(builder->random, MODEL_PINS), one_in(builder->random, 2));
+        put_any_level(builder, 0, MODEL_PINS);
     }
 }
 
@@ -345,8 +356,9 @@ static void act_handshake(struct builder *builder)
     unsigned rounds = 1 + generate_below(random, 4);
 
     if (kind_of(&builder->device, which) == KIND_1X || control_of(&builder->device, which) < 6) {
-        put_write(builder, MODEL_PACR + which,
-                  (uint8_t)(generate_below(random, 2) << 6 | 0x30u | generate_below(random, 16)));
+        unsigned submode = generate_below(random, 2);
+
+        put_write(builder, MODEL_PACR + which, (uint8_t)(submode << 6 | 0x30u | generate_below(random, 16)));
     }
     if (!is_enabled(&builder->device, which) || builder->device.pgcr >= 0x40) {
         put_write(builder, MODEL_PGCR, (uint8_t)((builder->device.pgcr & 0x3Fu) | 0x10u << which));
@@ -390,16 +402,19 @@ static void act_timer_run(struct builder *builder)
 {
     struct generate_random *random = builder->random;
     unsigned rounds = 1 + generate_below(random, 3);
+    unsigned tcr = generate_below(random, 8) << 5 | 1u;
 
+    tcr |= one_in(random, 4) ? 0x10u : 0u;
+    tcr |= one_in(random, 2) ? 0x02u : 0u;
     put_preload(builder, generate_below(random, 4));
     if (one_in(random, 3)) {
         put_pin(builder, MODEL_PIN_TIN, true);
     }
-    put_write(builder, MODEL_TCR, (uint8_t)(generate_below(random, 8) << 5 | (one_in(random, 4) ? 0x10u : 0u) |
-                                            (one_in(random, 2) ? 0x02u : 0u) | 1u));
+    put_write(builder, MODEL_TCR, (uint8_t)tcr);
     while (rounds-- > 0) {
-        put_clocks(builder, clocks_to_opening(&builder->device) + 64 * generate_below(random, 2) +
-                                generate_below(random, 2));
+        uint32_t further = generate_below(random, 2);
+
+        put_clocks(builder, clocks_to_opening(&builder->device) + 64 * further + generate_below(random, 2));
         if (one_in(random, 3)) {
             put_write(builder, MODEL_TSR, telling_byte(random));
         }
@@ -455,9 +470,10 @@ static void act_status_writes(struct builder *builder)
 static void act_interrupt_setup(struct builder *builder)
 {
     struct generate_random *random = builder->random;
+    uint8_t piack = one_in(random, 4) ? 0 : 0x10;
     unsigned which;
 
-    put_write(builder, MODEL_PSRR, any_byte(random) | (one_in(random, 4) ? 0 : 0x10));
+    put_write(builder, MODEL_PSRR, any_byte(random) | piack);
     if (one_in(random, 2)) {
         put_write(builder, MODEL_PIVR, telling_byte(random));
     }
@@ -490,7 +506,7 @@ static void act_port_c(struct builder *builder)
         put_write(builder, MODEL_PSRR, any_byte(random));
         break;
     default:
-        put_pin(builder, MODEL_PIN_C + generate_below(random, 8), one_in(random, 2));
+        put_any_level(builder, MODEL_PIN_C, 8);
         break;
     }
 }
@@ -498,13 +514,14 @@ static void act_port_c(struct builder *builder)
 static void act_anything(struct builder *builder)
 {
     struct generate_random *random = builder->random;
+    unsigned number = generate_below(random, MODEL_REGISTERS);
 
     switch (generate_below(random, 4)) {
     case 0:
-        put_write(builder, generate_below(random, MODEL_REGISTERS), telling_byte(random));
+        put_write(builder, number, telling_byte(random));
         break;
     case 1:
-        put_read(builder, generate_below(random, MODEL_REGISTERS));
+        put_read(builder, number);
         break;
     case 2:
         put_preload(builder, telling_count(random));
@@ -682,7 +699,8 @@ static struct model_device construct_device(struct generate_random *random)
     construct_port(random, &device, 1);
     device.c_direction = telling_byte(random);
     device.c_latch = any_byte(random);
-    device.tcr = (any_byte(random) & 0xF7) | (one_in(random, 4) ? 0 : 1);
+    device.tcr = any_byte(random) & 0xF7;
+    device.tcr |= one_in(random, 4) ? 0 : 1;
     device.tivr = any_byte(random);
     construct_timer(random, &device);
     return device;
@@ -801,13 +819,14 @@ static void break_handshake_place(struct generate_random *random, struct model_d
 {
     struct model_port *port = &device->port[which];
     enum kind kind = one_in(random, 2) ? KIND_00 : KIND_01;
+    bool is_1x = one_in(random, 3);
 
     switch (generate_below(random, 3)) {
     case 0:
         make_port(random, device, which, kind, 6 + generate_below(random, 2), kind == KIND_00 ? 2 : 0);
         break;
     case 1:
-        make_port(random, device, which, one_in(random, 3) ? KIND_1X : kind, generate_below(random, 6), 0);
+        make_port(random, device, which, is_1x ? KIND_1X : kind, generate_below(random, 6), 0);
         break;
     default:
         make_port(random, device, which, kind, 6 + generate_below(random, 2), 0);
@@ -822,10 +841,11 @@ static void break_handshake_place(struct generate_random *random, struct model_d
 static void break_held(struct generate_random *random, struct model_device *device, unsigned which)
 {
     struct model_port *port = &device->port[which];
+    enum kind kind = one_in(random, 2) ? KIND_00 : KIND_01;
 
     switch (generate_below(random, 3)) {
     case 0: /* over two */
-        make_port(random, device, which, (enum kind)generate_below(random, 2), generate_below(random, 8), 1);
+        make_port(random, device, which, kind, generate_below(random, 8), 1);
         port->held = (uint8_t)(3 + generate_below(random, one_in(random, 2) ? 2 : 253));
         return;
     case 1: /* disabled */
@@ -849,8 +869,9 @@ static void break_flags(struct generate_random *random, struct model_device *dev
 {
     struct model_port *port = &device->port[which];
     bool is_h1 = one_in(random, 2);
+    enum kind kind = (enum kind)generate_below(random, 3);
 
-    make_port(random, device, which, (enum kind)generate_below(random, 3), generate_below(random, 8), 0);
+    make_port(random, device, which, kind, generate_below(random, 8), 0);
     if (is_h1 ? kind_of(device, which) == KIND_1X : control_of(device, which) < 4) {
         device->pgcr &= (uint8_t)~(0x10u << which);
         arrange_port(random, device, which);
@@ -892,8 +913,9 @@ static void break_halt(struct generate_random *random, struct model_device *devi
 
 static void break_timer(struct generate_random *random, struct model_device *device)
 {
-    uint32_t over = 0x1000000u << generate_below(random, 8) | generate_below(random, 0x1000000);
+    uint32_t over = 0x1000000u << generate_below(random, 8);
 
+    over |= generate_below(random, 0x1000000);
     switch (generate_below(random, 8)) {
     case 0:
         device->tcr = 0x01;
@@ -919,7 +941,8 @@ static void break_registers(struct generate_random *random, struct model_device 
     if (one_in(random, 2)) {
         device->psrr |= 0x80;
     } else {
-        device->pivr = (uint8_t)((any_byte(random) & 0xFCu) | (1 + generate_below(random, 3)));
+        device->pivr = any_byte(random) & 0xFC;
+        device->pivr |= (uint8_t)(1 + generate_below(random, 3));
     }
 }
 
@@ -944,7 +967,9 @@ static void flip_bits(struct generate_random *random, uint8_t *bytes, size_t siz
     unsigned many = 1 + generate_below(random, 3);
 
     while (size > 0 && many-- > 0) {
-        bytes[generate_below(random, (uint32_t)size)] ^= (uint8_t)(1u << generate_below(random, 8));
+        size_t place = generate_below(random, (uint32_t)size);
+
+        bytes[place] ^= (uint8_t)(1u << generate_below(random, 8));
     }
 }
 

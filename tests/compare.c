@@ -87,7 +87,7 @@ static const char *register_name(unsigned number)
     return names[number] != NULL ? names[number] : "null";
 }
 
-#define NAMED(kind, place, name) {name, MODEL_WIDTH_##kind},
+#define NAMED(kind, place, most, name) {name, MODEL_WIDTH_##kind},
 
 /* The name of the field that a byte belongs to and, of a number, which of its bytes it is. */
 static void print_byte_name(size_t place)

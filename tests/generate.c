@@ -35,6 +35,11 @@ uint32_t generate_below(struct generate_random *random, uint32_t limit)
     return (uint32_t)((next_random(random) >> 32) * limit >> 32);
 }
 
+static uint32_t up_to(struct generate_random *random, uint32_t most)
+{
+    return (uint32_t)((next_random(random) >> 32) * ((uint64_t)most + 1) >> 32);
+}
+
 static bool one_in(struct generate_random *random, uint32_t many)
 {
     return generate_below(random, many) == 0;
@@ -655,11 +660,6 @@ static void construct_port(struct generate_random *random, struct model_device *
 
     port->direction = telling_byte(random);
     port->control = telling_control(random);
-    port->final = any_byte(random);
-    port->initial = any_byte(random);
-    port->oldest = any_byte(random);
-    port->second = any_byte(random);
-    port->last_read = any_byte(random);
     arrange_port(random, device, which);
 }
 
@@ -680,28 +680,21 @@ static void construct_timer(struct generate_random *random, struct model_device 
     device->load_due = halted || one_in(random, 3);
 }
 
+#define ANY_IN_RANGE(kind, place, most, name) device.place = (model_##kind)up_to(random, most);
+
+/* Every field anywhere in its range; then those for which rules turn on certain values, or on other fields. */
 static struct model_device construct_device(struct generate_random *random)
 {
     struct model_device device;
-    unsigned place;
 
-    memset(&device, 0, sizeof device);
-    for (place = 0; place < 3; place++) {
-        device.outside[place] = any_byte(random);
-    }
-    for (place = 0; place < 4; place++) {
-        device.outside_hand[place] = one_in(random, 2);
-    }
+    MODEL_LAYOUT(ANY_IN_RANGE)
     device.pgcr = telling_pgcr(random);
-    device.psrr = any_byte(random) & 0x7F;
-    device.pivr = one_in(random, 3) ? 0x0F : any_byte(random) & 0xFC;
+    device.pivr = one_in(random, 3) ? 0x0F : device.pivr & 0xFC;
     construct_port(random, &device, 0);
     construct_port(random, &device, 1);
     device.c_direction = telling_byte(random);
-    device.c_latch = any_byte(random);
-    device.tcr = any_byte(random) & 0xF7;
+    device.tcr &= 0xF7;
     device.tcr |= one_in(random, 4) ? 0 : 1;
-    device.tivr = any_byte(random);
     construct_timer(random, &device);
     return device;
 }
@@ -738,7 +731,7 @@ static void spread_byte(struct generate_random *random, uint8_t *byte)
 }
 
 #define spread_number spread_byte
-#define SPREAD(kind, place, name)                                                                                    \
+#define SPREAD(kind, place, most, name)                                                                              \
     spread_##kind(random, bytes);                                                                                    \
     bytes += MODEL_WIDTH_##kind;
 
@@ -946,15 +939,38 @@ static void break_registers(struct generate_random *random, struct model_device 
     }
 }
 
+/* Just past a range, or anywhere past it. */
+static uint32_t past(struct generate_random *random, uint32_t most, uint32_t widest)
+{
+    return most + 1 + (one_in(random, 2) ? 0 : up_to(random, widest - most - 1));
+}
+
+#define IS_LIMITED(kind, place, most, name) +(most < MODEL_WIDEST_##kind)
+#define BREAK_RANGE(kind, place, most, name)                                                                         \
+    if (most < MODEL_WIDEST_##kind && chosen-- == 0) {                                                               \
+        device->place = (model_##kind)past(random, most, MODEL_WIDEST_##kind);                                       \
+    }
+
+/* One of the fields that don't go as far as their bytes, past its range. */
+static void break_range(struct generate_random *random, struct model_device *device)
+{
+    unsigned chosen = generate_below(random, 0 MODEL_LAYOUT(IS_LIMITED));
+
+    MODEL_LAYOUT(BREAK_RANGE)
+}
+
 static void break_clause(struct generate_random *random, struct model_device *device)
 {
-    switch (generate_below(random, 8)) {
+    switch (generate_below(random, 9)) {
     case 0:
         break_registers(random, device);
         break;
     case 1:
     case 2:
         break_timer(random, device);
+        break;
+    case 3:
+        break_range(random, device);
         break;
     default:
         break_port(random, device, generate_below(random, 2));

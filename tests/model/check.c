@@ -208,9 +208,24 @@ static void check_layout(void)
     }
 }
 
+#define CHECK_RANGE(kind, place, most, name)                                                                         \
+    if (most < MODEL_WIDEST_##kind) {                                                                                \
+        struct model_device device = model_fresh();                                                                  \
+                                                                                                                     \
+        device.place = (model_##kind)(most + 1u);                                                                    \
+        expect("valid past the range: " name, model_valid(&device), false);                                          \
+    }
+
+/* 01, number 8: each range that fields.h states is one that the model judges. */
+static void check_ranges(void)
+{
+    MODEL_LAYOUT(CHECK_RANGE)
+}
+
 int main(void)
 {
     check_layout();
+    check_ranges();
     check_formats();
     check_openings();
     check_ports();

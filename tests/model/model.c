@@ -1260,8 +1260,8 @@ static void give_number(uint32_t number, uint8_t **bytes)
     give_byte((uint8_t)(number >> 24), bytes);
 }
 
-#define TAKE(kind, place, name) device.place = take_##kind(&bytes);
-#define GIVE(kind, place, name) give_##kind(device->place, &bytes);
+#define TAKE(kind, place, most, name) device.place = take_##kind(&bytes);
+#define GIVE(kind, place, most, name) give_##kind(device->place, &bytes);
 
 MODEL_LINKAGE struct model_device model_from_bytes(const uint8_t *bytes)
 {

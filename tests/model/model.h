@@ -92,15 +92,19 @@ enum model_refusal {
     MODEL_REFUSALS /* one more than the last */
 };
 
-/* What the kinds of fields.h are in a struct, and how many bytes each takes. */
+/* What the kinds of fields.h are in a struct, how many bytes each takes, and the most that it can hold. */
 typedef uint8_t model_byte;
 typedef bool model_flag;
 typedef uint32_t model_number;
 
 enum model_width { MODEL_WIDTH_byte = 1, MODEL_WIDTH_flag = 1, MODEL_WIDTH_number = 4 };
 
-#define MODEL_DECLARED(kind, member, name) model_##kind member;
-#define MODEL_ADDED_WIDTH(kind, place, name) +MODEL_WIDTH_##kind
+#define MODEL_WIDEST_byte 0xFFu
+#define MODEL_WIDEST_flag 1u
+#define MODEL_WIDEST_number 0xFFFFFFFFu
+
+#define MODEL_DECLARED(kind, member, most, name) model_##kind member;
+#define MODEL_ADDED_WIDTH(kind, place, most, name) +MODEL_WIDTH_##kind
 
 /* Port A with H1 and H2, or port B with H3 and H4, which are called H1 and H2 here too. */
 struct model_port {

@@ -19,6 +19,8 @@
 #define ROUND_SECONDS 0.02
 #define ANSWERS_ROOM MODEL_ANSWERS_MOST
 #define OPENINGS_ROOM 8192u
+#define CLOCKS_EVENTS_MOST MODEL_CLOCKS_EVENTS_MOST
+#define clocks_list generate_clocks_list
 #define SHORT_LISTS 256u
 #define SHORT_SIZE 32u
 
@@ -298,17 +300,17 @@ static void table_of_clocks(void)
 {
     begin_work("a", "6,898 clocks events of 65,536; model: 64 of them, scaled", 1000);
     timer_device(work.device, 0x10000); /* 215 openings */
-    generate_clocks_list(&work.list[0], MODEL_CLOCKS_EVENTS_MOST);
-    generate_clocks_list(&work.part, 64);
-    work.model_portion = 64.0 / MODEL_CLOCKS_EVENTS_MOST;
+    clocks_list(&work.list[0], CLOCKS_EVENTS_MOST);
+    clocks_list(&work.part, 64);
+    work.model_portion = 64.0 / CLOCKS_EVENTS_MOST;
     print_row();
     begin_work("b1", "8,192 openings at preload 1 (8 clocks events)", 2);
     timer_device(work.device, 1);
-    generate_clocks_list(&work.list[0], 8);
+    clocks_list(&work.list[0], 8);
     print_row();
     begin_work("b2", "8,192 openings at preload 255 (1,024 clocks events)", 100);
     timer_device(work.device, 255);
-    generate_clocks_list(&work.list[0], 1024);
+    clocks_list(&work.list[0], 1024);
     print_row();
 }
 
@@ -367,14 +369,14 @@ static int print_all_growth(void)
     for (part = 1; part <= 8; part *= 2) {
         begin_work("openings", "", 0);
         timer_device(work.device, 1);
-        generate_clocks_list(&work.list[0], part);
+        clocks_list(&work.list[0], part);
         print_growth("openings", 1024.0 * part);
     }
     for (part = 1; part <= 16; part *= 2) {
         begin_work("clocks", "", 0);
         timer_device(work.device, 0xFFFFFF);
-        generate_clocks_list(&work.list[0], MODEL_CLOCKS_EVENTS_MOST * part / 16);
-        print_growth("clocks", (double)MODEL_CLOCKS_MOST * (MODEL_CLOCKS_EVENTS_MOST * part / 16));
+        clocks_list(&work.list[0], CLOCKS_EVENTS_MOST * part / 16);
+        print_growth("clocks", (double)MODEL_CLOCKS_MOST * (CLOCKS_EVENTS_MOST * part / 16));
     }
     return 0;
 }

@@ -5,6 +5,9 @@
  * document 01 forbids under number 8 is refused by pit_play and told by pit_valid, and every other call
  * has a defined answer for it all the same. The buffers of one call must not overlap.
  *
+ * Fields are only ever appended to the layout, and the size is its version: a field keeps its place for good, a
+ * later layout is longer, and a call that is handed another size than PIT_DEVICE_SIZE answers PIT_WRONG_SIZE.
+ *
  * Layout of the device, a byte each unless stated. A flag is 0 or 1; any other value is read as 1.
  *
  *    0  PGCR        1  PSRR        2  PIVR
@@ -80,10 +83,11 @@ uint32_t pit_read(uint8_t *device, size_t device_size, uint8_t number);
  * PIT_WRONG_SIZE. A pin over 27 is none, and nothing happens. */
 uint32_t pit_pin(uint8_t *device, size_t device_size, uint8_t pin, uint8_t level);
 
-/* Passes clocks, numbered on from the clocks passed before: how many openings there were, with their
- * numbers in the row as far as it reaches; or PIT_WRONG_SIZE. Clock numbers are taken modulo 2^32. */
+/* Passes clocks, numbered on from the clocks passed before. Answers 0, with how many of them opened the gate at
+ * *opened and their numbers in the row as far as it reaches; or a refusal (there is none today) or PIT_WRONG_SIZE,
+ * where nothing is written. Clock numbers are taken modulo 2^32. */
 uint32_t pit_clocks(uint8_t *device, size_t device_size, uint32_t clocks, uint32_t passed,
-                    uint32_t *openings, size_t openings_count);
+                    uint32_t *openings, size_t openings_count, uint32_t *opened);
 
 /* Resets the part: 0, or PIT_WRONG_SIZE. */
 uint32_t pit_reset(uint8_t *device, size_t device_size);

@@ -11,6 +11,7 @@
 #include "generate.h"
 #include "hex.h"
 #include "pit.h"
+#include "writer.h"
 
 #include <inttypes.h>
 #include <stdarg.h>
@@ -22,6 +23,7 @@
 #define OPENINGS_ROOM 65536u
 #define GUARD 32u
 #define NO_EVENT SIZE_MAX
+#define UNTOUCHED 0x5A5A5A5Au /* what a number holds that a call may not write */
 #define REFUSALS_ROOM 32u /* 01 and the change requests give numbers up to 14 */
 
 /* The model's fields add up to the size that pit.h states. */
@@ -324,6 +326,7 @@ static uint32_t clocks_both(uint8_t *device, struct model_device *model, uint32_
                             size_t room)
 {
     uint32_t opened = 0;
+    uint32_t found = UNTOUCHED;
     uint32_t number;
 
     fill_openings(library_row, model_row, room + GUARD);
@@ -335,8 +338,9 @@ static uint32_t clocks_both(uint8_t *device, struct model_device *model, uint32_
             opened++;
         }
     }
-    same_number("openings of a clocks call", pit_clocks(device, PIT_DEVICE_SIZE, clocks, passed, library_row, room),
-                opened);
+    same_number("answer of a clocks call",
+                pit_clocks(device, PIT_DEVICE_SIZE, clocks, passed, library_row, room, &found), 0);
+    same_number("openings of a clocks call", found, opened);
     same_openings("opening numbers of a clocks call", library_row, model_row, room + GUARD);
     return opened;
 }
@@ -574,30 +578,53 @@ static void compare_number(uint64_t seed, uint64_t number)
 
 /* ---- Calls with wrong sizes and numbers ---- */
 
+/* A running timer that opens the gate at the next clock: reset and clocks would both show. */
+static struct model_device about_to_open(void)
+{
+    struct model_device model = model_fresh();
+    unsigned clocks = 63;
+
+    model_write(&model, MODEL_PRELOAD_LOW, 1);
+    model_write(&model, MODEL_TCR, 1);
+    while (clocks-- > 0) {
+        (void)model_clock(&model);
+    }
+    return model;
+}
+
 /* Every call answers PIT_WRONG_SIZE and writes nothing. */
 static void wrong_sizes(size_t size)
 {
-    struct generate_list end = {{0xE0}, 1};
-    struct model_device fresh = model_fresh();
+    static struct generate_list list;
+    struct writer writer = {list.bytes, 0};
+    struct model_device model = about_to_open();
     uint8_t device[PIT_DEVICE_SIZE];
     uint64_t totals[PIT_TOTALS] = {1, 2, 3, 4};
+    uint32_t opened = UNTOUCHED;
 
-    model_to_bytes(&fresh, device);
+    model_to_bytes(&model, device);
+    writer_read(&writer, MODEL_TIVR);
+    writer_clocks(&writer, 1);
+    list.size = writer_end(&writer);
+    fill_openings(library_row, model_row, GUARD);
+    fill_answers(library_answers, model_answers, GUARD);
     same_number("fresh, wrong size", pit_fresh(device, size), PIT_WRONG_SIZE);
     same_number("valid, wrong size", pit_valid(device, size), PIT_WRONG_SIZE);
     same_number("write, wrong size", pit_write(device, size, MODEL_TIVR, 0x33), PIT_WRONG_SIZE);
     same_number("read, wrong size", pit_read(device, size, MODEL_TIVR), PIT_WRONG_SIZE);
     same_number("pin, wrong size", pit_pin(device, size, 0, 0), PIT_WRONG_SIZE);
-    same_number("clocks, wrong size", pit_clocks(device, size, 1, 0, library_row, 1), PIT_WRONG_SIZE);
+    same_number("clocks, wrong size", pit_clocks(device, size, 1, 0, library_row, 1, &opened), PIT_WRONG_SIZE);
     same_number("reset, wrong size", pit_reset(device, size), PIT_WRONG_SIZE);
     same_number("port acknowledge, wrong size", pit_port_acknowledge(device, size), PIT_WRONG_SIZE);
     same_number("timer acknowledge, wrong size", pit_timer_acknowledge(device, size), PIT_WRONG_SIZE);
     same_number("levels, wrong size", pit_levels(device, size), PIT_WRONG_SIZE);
     same_number("play, wrong device size",
-                pit_play(device, size, end.bytes, end.size, library_answers, 0, library_openings, 0, totals,
-                         PIT_TOTALS),
+                pit_play(device, size, list.bytes, list.size, library_answers, 2, library_row, 1, totals, PIT_TOTALS),
                 PIT_WRONG_SIZE);
-    same_device("after calls with a wrong size", device, &fresh);
+    same_device("after calls with a wrong size", device, &model);
+    same_number("openings counted after a wrong size", opened, UNTOUCHED);
+    same_openings("openings after a wrong size", library_row, model_row, GUARD);
+    same_bytes("answers after a wrong size", library_answers, model_answers, GUARD);
     same_number("totals after a wrong size", totals[0] + 10 * totals[1] + 100 * totals[2] + 1000 * totals[3], 4321);
 }
 
@@ -640,7 +667,7 @@ static void outlying_numbers(void)
     (void)pit_pin(device, PIT_DEVICE_SIZE, 3, 0);
     (void)pit_pin(device, PIT_DEVICE_SIZE, 3, 0x80);
     same_device("after level 80", device, &model);
-    same_number("no clocks", pit_clocks(device, PIT_DEVICE_SIZE, 0, 7, library_row, 0), 0);
+    same_number("openings of no clocks", clocks_both(device, &model, 0, 7, 0), 0);
     same_device("after no clocks", device, &model);
 }
 

@@ -95,26 +95,26 @@ uint32_t pit_pin(uint8_t *device, size_t device_size, uint8_t pin, uint8_t level
 }
 
 uint32_t pit_clocks(uint8_t *device, size_t device_size, uint32_t clocks, uint32_t passed, uint32_t *openings,
-                    size_t openings_count)
+                    size_t openings_count, uint32_t *opened)
 {
     struct model_device model;
-    uint32_t opened = 0;
 
     if (device_size != PIT_DEVICE_SIZE) {
         return PIT_WRONG_SIZE;
     }
     model = model_from_bytes(device);
+    *opened = 0;
     while (clocks-- > 0) {
         passed++;
         if (model_clock(&model)) {
-            if (opened < openings_count) {
-                openings[opened] = passed;
+            if (*opened < openings_count) {
+                openings[*opened] = passed;
             }
-            opened++;
+            (*opened)++;
         }
     }
     model_to_bytes(&model, device);
-    return opened;
+    return 0;
 }
 
 uint32_t pit_reset(uint8_t *device, size_t device_size)

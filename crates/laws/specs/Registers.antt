@@ -4,114 +4,134 @@ use mathlib.Core.Logic.{_⊎_, inl, inr}
 use mathlib.Core.Bool.{Bool, true, false, not, _&&_, _||_, Bool·beq, false≢true}
 use Prim.Native.Nat.{ℕ, _<_, _≤_}
 use native.Mathlib.Omega.{arith}
-use lib.Dec.{eqb, leb, ltb}
-use borrow.Author.Tests.{eqb-true, eq-eqb, ne-eqb, not-true}
+use lib.Dec.{eqb, ltb}
+use borrow.Author.Tests.{eq-eqb, ne-eqb, not-true}
 use Rattle.bits.specs.Choice.{if_then_else_, branch, and-left, either}
 use Rattle.bits.specs.Field.{bitOf}
+use Rattle.bits.specs.Tables.{each}
 use Rattle.bits.specs.Trying.{anyBool, anyBelow, _and_}
-use Rattle.port.specs.Control.{modeOf, submodeField, handshakeField, rulesOf}
-use Rattle.port.specs.Buffering.{emptiedOf}
-use Rattle.port.specs.Happening.{withControl, restartedOf, flushedOf, flagsClearedOf, modedOf, controlledOf}
+use Rattle.event.specs.Map.{PGCR, PSRR, PADR, PBDR, TCR, TSR}
+use Rattle.port.specs.Control.{modeOf, submodeField, handshakeField, enabledOf, rulesOf}
+use Rattle.port.specs.Parts.{withControl, withStrobe}
+use Rattle.port.specs.Edges.{restartedOf, flushedOf}
+use Rattle.port.specs.Switching.{pgcrWritten, controlWritten, flagsClearedOf}
+use Rattle.port.specs.declared.Pair.{Pair}
+use Rattle.port.specs.declared.Pair.the-variants.{H12, H34}
 use Rattle.port.specs.declared.Rules.{Rules}
 use Rattle.port.specs.declared.Strobe.{Strobe}
-use Rattle.port.specs.declared.Port.{Port}
-use Rattle.device.specs.Registers.{readOf, writePgcr, writePacr, writePbcr, writePsr, writeTcr, writePreload, writeTsr, writeOf}
+use Rattle.port.specs.declared.Link.{Link}
+use Rattle.parallel.specs.Parts.{linkOf, withLink}
+use Rattle.parallel.specs.Switching.{writePgcr, writePsrr, writePivr, writeControl, writePsr}
+use Rattle.parallel.specs.declared.Parallel.{Parallel}
+use Rattle.device.specs.Registers.{readOf, writes, writeOf}
 use Rattle.device.specs.Validity.{validOf}
 use Rattle.device.specs.declared.Device.{Device}
 use Rattle.laws.specs.Stays.{valid-in}
 
 -- Unused bits read 0: PSRR bit 7 of a valid device.
-pub psrr-unused : (d : Device) → validOf d ≡ true → bitOf (readOf d 1 .byte) 7 ≡ false
+pub psrr-unused : (d : Device) → validOf d ≡ true → bitOf (readOf d PSRR .byte) 7 ≡ false
 unfolding readOf
-psrr-unused d h = not-true _ (valid-in d h .psrr)
+psrr-unused d h = not-true _ (valid-in d h .parallel .psrr)
 
 -- Unused bits read 0: TCR bit 3 of a valid device.
-pub tcr-unused : (d : Device) → validOf d ≡ true → bitOf (readOf d 16 .byte) 3 ≡ false
+pub tcr-unused : (d : Device) → validOf d ≡ true → bitOf (readOf d TCR .byte) 3 ≡ false
 unfolding readOf
-tcr-unused d h = not-true _ (valid-in d h .timer .unused)
+tcr-unused d h = not-true _ (valid-in d h .gate .unused)
 
 -- Unused bits read 0: TSR bits 7-1, of every device.
-pub tsr-unused : (d : Device) (i : ℕ) → 1 ≤ i → i < 8 → bitOf (readOf d 26 .byte) i ≡ false
+pub tsr-unused : (d : Device) (i : ℕ) → 1 ≤ i → i < 8 → bitOf (readOf d TSR .byte) i ≡ false
 unfolding readOf bitOf
 tsr-unused d i l k =
-    let tried = (anyBool and anyBelow 8) .any (λ x. eqb (x .1) 0 || not (bitOf (if x .0 then 1 else 0) (x .1))) refl (d .timer .zds, i) (tt, k) in
+    let zds = d .gate .timer .phase .zds in
+    let tried = (anyBool and anyBelow 8) .any (λ x. eqb (x .1) 0 || not (bitOf (if x .0 then 1 else 0) (x .1))) refl (zds, i) (tt, k) in
     not-true _ (either (eqb i 0) _ tried (ne-eqb i 0 (λ e. omega (arith, e))))
 
 beq-self : (b : Bool) → Bool·beq b b ≡ true
 beq-self true = refl
 beq-self false = refl
 
--- the same mode field and enable bit leave a port as it was
-same-moded : (p : Port) (old new : ℕ) (was is : Bool) → modeOf old ≡ modeOf new → was ≡ is → modedOf p old new was is ≡ p
-unfolding modedOf
-same-moded p old new was is e f = let x : eqb (modeOf old) (modeOf new) ≡ true = eq-eqb _ _ e in rw (x, f, beq-self)
+-- the same mode field and enable bit leave a pair as it was
+same-mode : (l : Link) (pair : Pair) (old new : ℕ) → modeOf old ≡ modeOf new → enabledOf pair old ≡ enabledOf pair new → pgcrWritten l pair old new ≡ l
+unfolding pgcrWritten
+same-mode l pair old new e f = let x : eqb (modeOf old) (modeOf new) ≡ true = eq-eqb _ _ e in rw (x, f, beq-self)
 
--- Changing sense makes no edge: a write of PGCR that leaves the mode and both enable bits leaves both ports as they were.
-pub sense-changed : (d : Device) (v : ℕ) → modeOf (d .pgcr) ≡ modeOf v → bitOf (d .pgcr) 4 ≡ bitOf v 4 → bitOf (d .pgcr) 5 ≡ bitOf v 5 → (writeOf d 0 v .a ≡ d .a) × (writeOf d 0 v .b ≡ d .b)
-unfolding writeOf writePgcr
-sense-changed d v e f g = (same-moded (d .a) _ _ _ _ e f, same-moded (d .b) _ _ _ _ e g)
+-- Changing sense makes no edge: a write of PGCR that leaves the mode and a pair's enable bit leaves the pair as it was.
+pub sense-changed : (d : Device) (pair : Pair) (v : ℕ) → modeOf (d .parallel .pgcr) ≡ modeOf v → enabledOf pair (d .parallel .pgcr) ≡ enabledOf pair v
+    → linkOf (writeOf d PGCR v .parallel) pair ≡ linkOf (d .parallel) pair
+unfolding writeOf writePgcr linkOf
+sense-changed d H12 v e f = same-mode (d .parallel .h12) H12 _ _ e f
+sense-changed d H34 v e f = same-mode (d .parallel .h34) H34 _ _ e f
 
--- what no edge came to: no edge flag was set, no byte was stored or taken; at most the port was emptied
-pub record NoEdge (p q : Port) : Type 0 where
-  pub first : q .h1 ≡ true → p .h1 ≡ true
-  pub second : q .h2 ≡ true → p .h2 ≡ true
-  pub buffer : (q .buffer ≡ p .buffer) ⊎ (q .buffer ≡ emptiedOf (p .buffer))
+-- what no edge came to: no edge flag was set, nothing was stored or taken; at most the pair was emptied
+pub record NoEdge (l m : Link) : Type 0 where
+  pub first : m .flag1 ≡ true → l .flag1 ≡ true
+  pub second : m .flag2 ≡ true → l .flag2 ≡ true
+  pub held : (m .held ≡ l .held) ⊎ (m .held ≡ 0)
 
-kept : (p : Port) (control direction : ℕ) (strobe : Strobe)
-    → NoEdge p (record { direction = direction; control = control; buffer = p .buffer; strobe = strobe; h1 = p .h1; h2 = p .h2 })
-kept p control direction strobe = record { first = λ e. e; second = λ e. e; buffer = inl refl }
+kept : (l : Link) (control : ℕ) (strobe : Strobe) → NoEdge l (withStrobe (withControl l control) strobe)
+kept l control strobe = record { first = λ e. e; second = λ e. e; held = inl refl }
 
-as-was : (p : Port) → NoEdge p p
-as-was p = kept p (p .control) (p .direction) (p .strobe)
+as-was : (l : Link) → NoEdge l l
+as-was l = kept l (l .control) (l .strobe)
 
-flushed-none : (p : Port) (control : ℕ) (rules : Rules) → NoEdge p (flushedOf (withControl p control) rules)
+flushed-none : (l : Link) (control : ℕ) (rules : Rules) → NoEdge l (flushedOf (withControl l control) rules)
 unfolding flushedOf restartedOf
-flushed-none p control rules = record { first = λ e. absurd (false≢true e); second = λ e. absurd (false≢true e); buffer = inr refl }
+flushed-none l control rules = record { first = λ e. absurd (false≢true e); second = λ e. absurd (false≢true e); held = inr refl }
 
-moded-none : (p : Port) (old new : ℕ) (was is : Bool) → NoEdge p (modedOf p old new was is)
-unfolding modedOf
-moded-none p old new was is =
-    branch (NoEdge p) (eqb (modeOf old) (modeOf new) && Bool·beq was is) _ _
-    (λ _. as-was p)
-    (λ _. flushed-none p (p .control) (rulesOf new (p .control) is))
+pgcr-none : (l : Link) (pair : Pair) (old new : ℕ) → NoEdge l (pgcrWritten l pair old new)
+unfolding pgcrWritten
+pgcr-none l pair old new =
+    branch (NoEdge l) (eqb (modeOf old) (modeOf new) && Bool·beq (enabledOf pair old) (enabledOf pair new)) _ _
+    (λ _. as-was l)
+    (λ _. flushed-none l (l .control) (rulesOf pair new (l .control)))
 
-controlled-none : (p : Port) (pgcr v : ℕ) (enabled : Bool) → NoEdge p (controlledOf p pgcr v enabled)
-unfolding controlledOf restartedOf
-controlled-none p pgcr v enabled =
-    branch (NoEdge p) (not (eqb (submodeField (p .control)) (submodeField v))) _ _
-    (λ _. flushed-none p v (rulesOf pgcr v enabled))
-    (λ _. branch (NoEdge p) (eqb (handshakeField (p .control)) (handshakeField v)) _ _
-    (λ _. kept p v (p .direction) (p .strobe))
-    (λ _. branch (NoEdge p) (ltb (handshakeField (p .control)) 4 && ltb (handshakeField v) 4) _ _
-    (λ _. kept p v (p .direction) _)
-    (λ _. record { first = λ e. e; second = λ e. absurd (false≢true e); buffer = inl refl })))
+control-none : (l : Link) (pair : Pair) (pgcr v : ℕ) → NoEdge l (controlWritten l pair pgcr v)
+unfolding controlWritten restartedOf
+control-none l pair pgcr v =
+    branch (NoEdge l) (not (eqb (submodeField (l .control)) (submodeField v))) _ _
+    (λ _. flushed-none l v (rulesOf pair pgcr v))
+    (λ _. branch (NoEdge l) (eqb (handshakeField (l .control)) (handshakeField v)) _ _
+    (λ _. kept l v (l .strobe))
+    (λ _. branch (NoEdge l) (ltb (handshakeField (l .control)) 4 && ltb (handshakeField v) 4) _ _
+    (λ _. kept l v _)
+    (λ _. record { first = λ e. e; second = λ e. absurd (false≢true e); held = inl refl })))
 
-cleared-none : (p : Port) (one two : Bool) → NoEdge p (flagsClearedOf p one two)
-cleared-none p one two =
-    record { first = λ e. and-left (p .h1) (not one) e; second = λ e. and-left (p .h2) (not two) e; buffer = inl refl }
+cleared-none : (l : Link) (one two : Bool) → NoEdge l (flagsClearedOf l one two)
+cleared-none l one two =
+    record { first = λ e. and-left (l .flag1) (not one) e; second = λ e. and-left (l .flag2) (not two) e; held = inl refl }
 
--- to neither port
-abbrev pub NoEdges : Device → Device → Type 0
-NoEdges d x = NoEdge (d .a) (x .a) × NoEdge (d .b) (x .b)
+-- to neither pair, and every cell as it was
+pub record NoEdges (p q : Parallel) : Type 0 where
+  pub h12 : NoEdge (p .h12) (q .h12)
+  pub h34 : NoEdge (p .h34) (q .h34)
+  pub a : q .a .cells ≡ p .a .cells
+  pub b : q .b .cells ≡ p .b .cells
 
--- Changing sense or function makes no edge: whatever is written, and to whichever register but data A and data B, is none to a port.
-pub no-edge : (d : Device) (r v : ℕ) → (r ≡ 8 → ⊥) → (r ≡ 9 → ⊥) → NoEdges d (writeOf d r v)
-unfolding writeOf writePgcr writePacr writePbcr writePsr writeTcr writePreload writeTsr
+pairs-none : (p q : Parallel) → NoEdge (p .h12) (q .h12) → NoEdge (p .h34) (q .h34) → q .a .cells ≡ p .a .cells → q .b .cells ≡ p .b .cells → NoEdges p q
+pairs-none p q one two a b = record { h12 = one; h34 = two; a = a; b = b }
+
+-- Changing sense or function makes no edge: whatever is written, and to whichever register but data A and data B, is none to a pair.
+pub no-edge : (d : Device) (r v : ℕ) → (r ≡ PADR → ⊥) → (r ≡ PBDR → ⊥) → NoEdges (d .parallel) (writeOf d r v .parallel)
+unfolding writeOf writePgcr writePsrr writePivr writeControl withLink linkOf writePsr
 no-edge d r v na nb =
-    branch (NoEdges d) (eqb r 0) _ _ (λ _. (moded-none (d .a) _ _ _ _, moded-none (d .b) _ _ _ _))
-    (λ _. branch (NoEdges d) (eqb r 1) _ _ (λ _. (as-was (d .a), as-was (d .b)))
-    (λ _. branch (NoEdges d) (eqb r 2) _ _ (λ _. (kept (d .a) _ v _, as-was (d .b)))
-    (λ _. branch (NoEdges d) (eqb r 3) _ _ (λ _. (as-was (d .a), kept (d .b) _ v _))
-    (λ _. branch (NoEdges d) (eqb r 4) _ _ (λ _. (as-was (d .a), as-was (d .b)))
-    (λ _. branch (NoEdges d) (eqb r 5) _ _ (λ _. (as-was (d .a), as-was (d .b)))
-    (λ _. branch (NoEdges d) (eqb r 6) _ _ (λ _. (controlled-none (d .a) _ v _, as-was (d .b)))
-    (λ _. branch (NoEdges d) (eqb r 7) _ _ (λ _. (as-was (d .a), controlled-none (d .b) _ v _))
-    (λ _. branch (NoEdges d) (eqb r 8) _ _ (λ e. absurd (na (eqb-true r 8 e)))
-    (λ _. branch (NoEdges d) (eqb r 9) _ _ (λ e. absurd (nb (eqb-true r 9 e)))
-    (λ _. branch (NoEdges d) (eqb r 12) _ _ (λ _. (as-was (d .a), as-was (d .b)))
-    (λ _. branch (NoEdges d) (eqb r 13) _ _ (λ _. (cleared-none (d .a) (bitOf v 0) (bitOf v 1), cleared-none (d .b) (bitOf v 2) (bitOf v 3)))
-    (λ _. branch (NoEdges d) (eqb r 16) _ _ (λ _. (as-was (d .a), as-was (d .b)))
-    (λ _. branch (NoEdges d) (eqb r 17) _ _ (λ _. (as-was (d .a), as-was (d .b)))
-    (λ _. branch (NoEdges d) (leb 19 r && ltb r 22) _ _ (λ _. (as-was (d .a), as-was (d .b)))
-    (λ _. branch (NoEdges d) (eqb r 26) _ _ (λ _. (as-was (d .a), as-was (d .b)))
-    (λ _. (as-was (d .a), as-was (d .b))))))))))))))))))
+    let p = d .parallel in
+    let one = as-was (p .h12) in
+    let two = as-was (p .h34) in
+    let still = pairs-none p p one two refl refl in
+    each (λ (x : Device). NoEdges p (x .parallel)) (writes d v) d r (λ _. still)
+    (λ _. pairs-none p _ (pgcr-none (p .h12) H12 (p .pgcr) v) (pgcr-none (p .h34) H34 (p .pgcr) v) refl refl)
+    (λ _. pairs-none p _ one two refl refl)
+    (λ _. pairs-none p _ one two refl refl)
+    (λ _. pairs-none p _ one two refl refl)
+    (λ _. still)
+    (λ _. pairs-none p _ one two refl refl)
+    (λ _. pairs-none p _ (control-none (p .h12) H12 (p .pgcr) v) two refl refl)
+    (λ _. pairs-none p _ one (control-none (p .h34) H34 (p .pgcr) v) refl refl)
+    (λ e. absurd (na e))
+    (λ e. absurd (nb e))
+    (λ _. still)
+    (λ _. pairs-none p _ (cleared-none (p .h12) (bitOf v 0) (bitOf v 1)) (cleared-none (p .h34) (bitOf v 2) (bitOf v 3)) refl refl)
+    (λ _. still)
+    (λ _. still)
+    (λ _ _. still)
+    (λ _. still)

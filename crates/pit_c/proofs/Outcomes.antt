@@ -28,10 +28,10 @@ module _ (l list answers openings totals : List ℕ) where
   unfolding playAnswer playDevice playAnswers playOpenings playTotals
   unplayed e = (rw e, (rw e, (rw e, (rw e, rw e))))
 
-  module _ (d : Device) (o : Outcome) (a g t′ : List ℕ) (s : length l ≡ size) (t : length totals ≡ totalsCount) (told : d ≡ deviceOf l)
+  module _ (d : Device) (o : Outcome) (a g t′ : List ℕ) (s : length l ≡ size) (t : length totals ≡ totalsCount) (taken : d ≡ deviceOf l)
       (plays : result o a g ≡ playOf list d answers openings) (e : t′ ≡ totalsOf o) where
     same : result o a g ≡ playOf list (deviceOf l) answers openings
-    same = rw told at plays
+    same = rw taken at plays
 
     handed : (l′ : List ℕ) → l′ ≡ playDevice l list answers openings totals → Leaves (o .refusal) l′ a g t′
     unfolding playAnswer playAnswers playOpenings playTotals

@@ -47,13 +47,15 @@ pub pit-reset : (κs : _) (a : _) (r r′ : _) (x x′ : _) → pit-reset-reads.
     → (r ≡ r′) × (now (x .0) ≡ now (x′ .0))
 pit-reset κs a r r′ x x′ p q = (p .0 ∙ sym (q .0), p .1 ∙ sym (q .1))
 
+-- the device, the openings and how many there were
 pub pit-clocks : (κs : _) (a : _) (r r′ : _) (x x′ : _) → pit-clocks-reads.Post κs a r x → pit-clocks-reads.Post κs a r′ x′
-    → (r ≡ r′) × (now (x .0) ≡ now (x′ .0)) × (now (x .1 .1 .1 .0) ≡ now (x′ .1 .1 .1 .0))
-pit-clocks κs a r r′ x x′ p q = (p .0 ∙ sym (q .0), p .1 .0 ∙ sym (q .1 .0), p .1 .1 ∙ sym (q .1 .1))
+    → (r ≡ r′) × (now (x .0) ≡ now (x′ .0)) × (now (x .1 .1 .1 .0) ≡ now (x′ .1 .1 .1 .0)) × (now (x .1 .1 .1 .1 .0) ≡ now (x′ .1 .1 .1 .1 .0))
+pit-clocks κs a r r′ x x′ p q = (p .0 ∙ sym (q .0), p .1 .0 ∙ sym (q .1 .0), p .1 .1 .0 ∙ sym (q .1 .1 .0), p .1 .1 .1 ∙ sym (q .1 .1 .1))
 
 -- the device, the answers, the openings and the totals
 pub pit-play : (κs : _) (a : _) (r r′ : _) (x x′ : _) → pit-play-reads.Post κs a r x → pit-play-reads.Post κs a r′ x′
-    → (r ≡ r′) × (now (x .0) ≡ now (x′ .0)) × (now (x .1 .1 .0) ≡ now (x′ .1 .1 .0)) × (now (x .1 .1 .1 .0) ≡ now (x′ .1 .1 .1 .0)) × (now (x .1 .1 .1 .1 .0) ≡ now (x′ .1 .1 .1 .1 .0))
+    → (r ≡ r′) × (now (x .0) ≡ now (x′ .0)) × (now (x .1 .1 .0) ≡ now (x′ .1 .1 .0)) × (now (x .1 .1 .1 .0) ≡ now (x′ .1 .1 .1 .0))
+    × (now (x .1 .1 .1 .1 .0) ≡ now (x′ .1 .1 .1 .1 .0))
 pit-play κs a r r′ x x′ p q = (
   p .0 ∙ sym (q .0),
   p .1 .0 ∙ sym (q .1 .0),

@@ -12,7 +12,9 @@ use Rattle.event.specs.declared.Answer.{Answer}
 use Rattle.event.specs.declared.Answer.the-variants.{Vector, Silent}
 use Rattle.device.specs.Fresh.{freshDevice, resetOf}
 use Rattle.device.specs.Interrupts.{portAcknowledge, timerAcknowledge}
-use Rattle.device.specs.Pins.{pinsA, pinsB, pinsC, levelH2, levelH4, pinOf}
+use Rattle.port.specs.declared.Pair.the-variants.{H12, H34}
+use Rattle.parallel.specs.Pins.{pinsOf, secondLevel}
+use Rattle.device.specs.Pins.{pinsC, pinOf}
 use Rattle.device.specs.Registers.{readOf, writeOf}
 use Rattle.device.specs.Clocking.{after, openings}
 use Rattle.device.specs.Validity.{validOf}
@@ -72,12 +74,13 @@ pinAnswer l pin level = answered l (λ d. flagByte (pinOf d pin (high level) .op
 unfoldable pub clocksCall : List ℕ → ℕ → List ℕ
 clocksCall l n = changed l (after n)
 
-unfoldable pub clocksAnswer : List ℕ → ℕ → ℕ → ℕ
-clocksAnswer l n k = answered l (λ d. length (openings n k d))
-
 -- the numbers of the clocks that opened, as far as the row reaches
 unfoldable pub clocksRow : List ℕ → ℕ → ℕ → List ℕ → List ℕ
 clocksRow l n k row = if sized l then sets row 0 (map clockNumber (openings n k (deviceOf l))) else row
+
+-- how many there were
+unfoldable pub clocksOpened : List ℕ → ℕ → ℕ → ℕ → ℕ
+clocksOpened l n k opened = if sized l then length (openings n k (deviceOf l)) else opened
 
 unfoldable pub resetCall : List ℕ → List ℕ
 resetCall l = changed l resetOf
@@ -96,8 +99,9 @@ timerAcknowledgeAnswer l = answered l (λ d. answerNumber (timerAcknowledge d))
 -- PA, PB, PC and H1 to H4, from bit 0 up
 unfoldable pub levelsOf : Device → ℕ
 levelsOf d =
-    numberOf (pinsA d) (pinsB d) (pinsC d)
-    (packedOf false false false false (levelH4 d) (d .outside .h3) (levelH2 d) (d .outside .h1))
+    let p = d .parallel in
+    numberOf (pinsOf p H12) (pinsOf p H34) (pinsC d)
+    (packedOf false false false false (secondLevel p H34) (p .h34 .level1) (secondLevel p H12) (p .h12 .level1))
 
 unfoldable pub levelsAnswer : List ℕ → ℕ
 levelsAnswer l = answered l levelsOf

@@ -1,67 +1,79 @@
--- The device as 52 bytes, in the order of include/pit.h ('Layout of the device'). A flag is 1 or 0, and any byte but 0 is read as 1;
+-- The device as bytes, in the order of include/pit.h ('Layout of the device'). A flag is 1 or 0, and any byte but 0 is read as 1;
 -- preload and count are four bytes each, least significant first.
 use Prim.Native.Nat.{ℕ, _+_, _*_, _/_, _%_}
 use mathlib.Core.Bool.{Bool, not}
-use mathlib.Core.List.{List, [], _∷_, _++_}
+use mathlib.Core.List.{List, [], _∷_}
 use lib.Dec.{eqb}
 use lib.ListN.{getD}
-use Rattle.bits.specs.Choice.{if_then_else_}
-use Rattle.port.specs.declared.Port.{Port}
-use Rattle.timer.specs.declared.Timer.{Timer}
-use Rattle.device.specs.declared.Outside.{Outside}
+use mir.Val.{boolByte}
+use Rattle.parallel.specs.declared.Parallel.{Parallel}
+use Rattle.gate.specs.declared.Gate.{Gate}
 use Rattle.device.specs.declared.Device.{Device}
 
 -- how many bytes a device takes
 abbrev pub size : ℕ
 size = 52
 
--- a flag
+-- a flag: 1 or 0
 abbrev pub flagByte : Bool → ℕ
-flagByte on = if on then 1 else 0
-
--- the four bytes of a 32-bit number
-unfoldable pub numberBytes : ℕ → List ℕ
-numberBytes n = n % 0x100 ∷ n / 0x100 % 0x100 ∷ n / 0x10000 % 0x100 ∷ n / 0x1000000 % 0x100 ∷ []
-
--- a port, with H1 and H2 for A, H3 and H4 for B
-unfoldable pub portBytes : Port → List ℕ
-portBytes p =
-    p .direction
-    ∷ p .control
-    ∷ p .buffer .latch
-    ∷ p .buffer .initial
-    ∷ p .buffer .first
-    ∷ p .buffer .second
-    ∷ p .buffer .held
-    ∷ p .buffer .last
-    ∷ p .strobe .wait
-    ∷ p .strobe .pulse
-    ∷ flagByte (p .strobe .asserted)
-    ∷ flagByte (p .h1)
-    ∷ flagByte (p .h2)
-    ∷ []
-
--- the timer
-unfoldable pub timerBytes : Timer → List ℕ
-timerBytes t =
-    (t .tcr ∷ t .tivr ∷ [])
-    ++ numberBytes (t .preload .0)
-    ++ numberBytes (t .count .0)
-    ++ (t .prescaler .0 ∷ flagByte (t .zds) ∷ flagByte (t .square) ∷ flagByte (t .due) ∷ [])
-
--- the outside levels of PA, PB, PC and H1 to H4
-unfoldable pub outsideBytes : Outside → List ℕ
-outsideBytes o = o .a ∷ o .b ∷ o .c ∷ flagByte (o .h1) ∷ flagByte (o .h2) ∷ flagByte (o .h3) ∷ flagByte (o .h4) ∷ []
+flagByte on = boolByte on
 
 -- the bytes of a device
-unfoldable pub bytesOf : Device → List ℕ
+abbrev pub bytesOf : Device → List ℕ
 bytesOf d =
-    (d .pgcr ∷ d .psrr ∷ d .pivr ∷ [])
-    ++ portBytes (d .a)
-    ++ portBytes (d .b)
-    ++ (d .c .direction ∷ d .c .latch ∷ [])
-    ++ timerBytes (d .timer)
-    ++ outsideBytes (d .outside)
+    d .parallel .pgcr
+    ∷ d .parallel .psrr
+    ∷ d .parallel .pivr
+    ∷ d .parallel .a .direction
+    ∷ d .parallel .h12 .control
+    ∷ d .parallel .a .cells .latch
+    ∷ d .parallel .a .cells .initial
+    ∷ d .parallel .a .cells .first
+    ∷ d .parallel .a .cells .second
+    ∷ d .parallel .h12 .held
+    ∷ d .parallel .a .cells .last
+    ∷ d .parallel .h12 .strobe .wait
+    ∷ d .parallel .h12 .strobe .pulse
+    ∷ flagByte (d .parallel .h12 .strobe .asserted)
+    ∷ flagByte (d .parallel .h12 .flag1)
+    ∷ flagByte (d .parallel .h12 .flag2)
+    ∷ d .parallel .b .direction
+    ∷ d .parallel .h34 .control
+    ∷ d .parallel .b .cells .latch
+    ∷ d .parallel .b .cells .initial
+    ∷ d .parallel .b .cells .first
+    ∷ d .parallel .b .cells .second
+    ∷ d .parallel .h34 .held
+    ∷ d .parallel .b .cells .last
+    ∷ d .parallel .h34 .strobe .wait
+    ∷ d .parallel .h34 .strobe .pulse
+    ∷ flagByte (d .parallel .h34 .strobe .asserted)
+    ∷ flagByte (d .parallel .h34 .flag1)
+    ∷ flagByte (d .parallel .h34 .flag2)
+    ∷ d .gate .c .direction
+    ∷ d .gate .c .latch
+    ∷ d .gate .timer .tcr
+    ∷ d .gate .timer .tivr
+    ∷ d .gate .timer .preload .0 % 0x100
+    ∷ d .gate .timer .preload .0 / 0x100 % 0x100
+    ∷ d .gate .timer .preload .0 / 0x10000 % 0x100
+    ∷ d .gate .timer .preload .0 / 0x1000000 % 0x100
+    ∷ d .gate .timer .count .0 % 0x100
+    ∷ d .gate .timer .count .0 / 0x100 % 0x100
+    ∷ d .gate .timer .count .0 / 0x10000 % 0x100
+    ∷ d .gate .timer .count .0 / 0x1000000 % 0x100
+    ∷ d .gate .timer .phase .prescaler .0
+    ∷ flagByte (d .gate .timer .phase .zds)
+    ∷ flagByte (d .gate .timer .phase .square)
+    ∷ flagByte (d .gate .timer .phase .due)
+    ∷ d .parallel .a .outside
+    ∷ d .parallel .b .outside
+    ∷ d .gate .c .outside
+    ∷ flagByte (d .parallel .h12 .level1)
+    ∷ flagByte (d .parallel .h12 .level2)
+    ∷ flagByte (d .parallel .h34 .level1)
+    ∷ flagByte (d .parallel .h34 .level2)
+    ∷ []
 
 -- byte i; past the end 0
 abbrev pub byteAt : List ℕ → ℕ → ℕ
@@ -72,53 +84,102 @@ abbrev pub flagAt : List ℕ → ℕ → Bool
 flagAt l i = not (eqb (byteAt l i) 0)
 
 -- the number of four bytes, least significant first
-unfoldable pub numberOf : ℕ → ℕ → ℕ → ℕ → ℕ
+abbrev pub numberOf : ℕ → ℕ → ℕ → ℕ → ℕ
 numberOf b0 b1 b2 b3 = b0 + b1 * 0x100 + b2 * 0x10000 + b3 * 0x1000000
 
--- the port of the thirteen bytes from place i on
-unfoldable pub portAt : List ℕ → ℕ → Port
-portAt l i = record {
-  direction = byteAt l i;
-  control = byteAt l (i + 1);
-  buffer = record {
-    latch = byteAt l (i + 2);
-    initial = byteAt l (i + 3);
-    first = byteAt l (i + 4);
-    second = byteAt l (i + 5);
-    held = byteAt l (i + 6);
-    last = byteAt l (i + 7);
-  };
-  strobe = record { wait = byteAt l (i + 8); pulse = byteAt l (i + 9); asserted = flagAt l (i + 10) };
-  h1 = flagAt l (i + 11);
-  h2 = flagAt l (i + 12);
-}
+-- the number of the four bytes from place i on
+abbrev pub numberAt : List ℕ → ℕ → ℕ
+numberAt l i = numberOf (byteAt l i) (byteAt l (i + 1)) (byteAt l (i + 2)) (byteAt l (i + 3))
 
--- the timer
-unfoldable pub timerOf : List ℕ → Timer
-timerOf l = record {
-  tcr = byteAt l 31;
-  tivr = byteAt l 32;
-  preload = record { 0 = numberOf (byteAt l 33) (byteAt l 34) (byteAt l 35) (byteAt l 36) };
-  count = record { 0 = numberOf (byteAt l 37) (byteAt l 38) (byteAt l 39) (byteAt l 40) };
-  prescaler = record { 0 = byteAt l 41 };
-  zds = flagAt l 42;
-  square = flagAt l 43;
-  due = flagAt l 44;
-}
-
--- the outside levels
-unfoldable pub outsideOf : List ℕ → Outside
-outsideOf l = record { a = byteAt l 45; b = byteAt l 46; c = byteAt l 47; h1 = flagAt l 48; h2 = flagAt l 49; h3 = flagAt l 50; h4 = flagAt l 51 }
-
--- the device that bytes stand for
-unfoldable pub deviceOf : List ℕ → Device
-deviceOf l = record {
+-- the half of ports and handshakes that bytes stand for
+abbrev pub parallelOf : List ℕ → Parallel
+parallelOf l = record {
   pgcr = byteAt l 0;
   psrr = byteAt l 1;
   pivr = byteAt l 2;
-  a = portAt l 3;
-  b = portAt l 16;
-  c = record { direction = byteAt l 29; latch = byteAt l 30 };
-  timer = timerOf l;
-  outside = outsideOf l;
+  a = record {
+    direction = byteAt l 3;
+    cells = record {
+      latch = byteAt l 5;
+      initial = byteAt l 6;
+      first = byteAt l 7;
+      second = byteAt l 8;
+      last = byteAt l 10;
+    };
+    outside = byteAt l 45;
+  };
+  b = record {
+    direction = byteAt l 16;
+    cells = record {
+      latch = byteAt l 18;
+      initial = byteAt l 19;
+      first = byteAt l 20;
+      second = byteAt l 21;
+      last = byteAt l 23;
+    };
+    outside = byteAt l 46;
+  };
+  h12 = record {
+    control = byteAt l 4;
+    held = byteAt l 9;
+    strobe = record {
+      wait = byteAt l 11;
+      pulse = byteAt l 12;
+      asserted = flagAt l 13;
+    };
+    flag1 = flagAt l 14;
+    flag2 = flagAt l 15;
+    level1 = flagAt l 48;
+    level2 = flagAt l 49;
+  };
+  h34 = record {
+    control = byteAt l 17;
+    held = byteAt l 22;
+    strobe = record {
+      wait = byteAt l 24;
+      pulse = byteAt l 25;
+      asserted = flagAt l 26;
+    };
+    flag1 = flagAt l 27;
+    flag2 = flagAt l 28;
+    level1 = flagAt l 50;
+    level2 = flagAt l 51;
+  };
 }
+
+-- the half of timer and port C that bytes, and the two numbers among them, stand for
+abbrev pub gateWith : List ℕ → ℕ → ℕ → Gate
+gateWith l preload count = record {
+  timer = record {
+    tcr = byteAt l 31;
+    tivr = byteAt l 32;
+    preload = record { 0 = preload };
+    count = record { 0 = count };
+    phase = record {
+      prescaler = record { 0 = byteAt l 41 };
+      zds = flagAt l 42;
+      square = flagAt l 43;
+      due = flagAt l 44;
+    };
+  };
+  c = record {
+    direction = byteAt l 29;
+    latch = byteAt l 30;
+    outside = byteAt l 47;
+  };
+}
+
+-- where preload and count begin
+abbrev pub preloadPlace : ℕ
+preloadPlace = 33
+
+abbrev pub countPlace : ℕ
+countPlace = 37
+
+-- the half of timer and port C that bytes stand for
+abbrev pub gateOf : List ℕ → Gate
+gateOf l = gateWith l (numberAt l preloadPlace) (numberAt l countPlace)
+
+-- the device that bytes stand for
+unfoldable pub deviceOf : List ℕ → Device
+deviceOf l = record { parallel = parallelOf l; gate = gateOf l }

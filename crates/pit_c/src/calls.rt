@@ -2,27 +2,24 @@
 // and puts it back; where the bytes are not as many as a device has, nothing happens.
 use crate::layout::SIZE;
 use crate::layout::device_of;
+use crate::layout::gate_of;
 use crate::layout::number_of;
+use crate::layout::parallel_of;
 use crate::layout::put_device;
 use device::Device;
 use event::Answer;
+use port::Pair;
 use timer::ClockNumber;
 ghost use mathlib.Core.Path.{_≡_};
-ghost use Rattle.pit_c.specs.Layout.{flagByte};
-ghost use Rattle.pit_c.specs.Calls.{answerNumber, levelsOf, done, freshCall, validAnswer, writeCall, readCall, readAnswer, pinCall, pinAnswer, clocksCall, clocksAnswer, clocksRow, resetCall, portAcknowledgeAnswer, timerAcknowledgeAnswer, levelsAnswer};
+ghost use Rattle.pit_c.specs.Calls.{done, freshCall, validAnswer, writeCall, readCall, readAnswer, pinCall, pinAnswer};
+ghost use Rattle.pit_c.specs.Calls.{clocksCall, clocksRow, clocksOpened, resetCall};
+ghost use Rattle.pit_c.specs.Calls.{answerNumber, portAcknowledgeAnswer, timerAcknowledgeAnswer, levelsOf, levelsAnswer};
 
 // What a call answers where a size is not the one it asks for.
 pub(crate) const WRONG_SIZE: u32 = 0xffff_ffff;
 
 // What an acknowledge answers where the part does not respond.
 const SILENT: u32 = 0x100;
-
-// 1 where a condition holds, else 0.
-fn told(holds: bool) -> u32
-    ensures { λ r. ⌜ r ≡ flagByte holds ⌝ }
-{
-    if holds { 1 } else { 0 }
-}
 
 // What is answered for an acknowledge.
 fn answer_number(answer: Answer) -> u32
@@ -38,17 +35,18 @@ fn answer_number(answer: Answer) -> u32
 fn levels(d: Device) -> u32
     ensures { λ r. ⌜ r ≡ levelsOf d ⌝ }
 {
+    let p = d.parallel;
     let handshakes = bits::packed(
         false,
         false,
         false,
         false,
-        d.level_h4(),
-        d.outside.h3,
-        d.level_h2(),
-        d.outside.h1,
+        p.second_level(Pair::H34),
+        p.h34.level1,
+        p.second_level(Pair::H12),
+        p.h12.level1,
     );
-    number_of(d.pins_a(), d.pins_b(), d.pins_c(), handshakes)
+    number_of(p.pins(Pair::H12), p.pins(Pair::H34), d.pins_c(), handshakes)
 }
 
 // Makes a fresh device.
@@ -72,7 +70,7 @@ pub extern "C" fn pit_valid(device: &[u8]) -> u32
     if device.len() != SIZE {
         return WRONG_SIZE;
     }
-    told(device_of(device).valid())
+    device_of(device).valid() as u32
 }
 
 // Writes a register.
@@ -115,20 +113,23 @@ pub extern "C" fn pit_pin(device: &mut [u8], pin: u8, level: u8) -> u32
     let stepped = device_of(device).pin(pin, level != 0);
     let after = stepped.device;
     put_device(after, device);
-    told(stepped.opened)
+    stepped.opened as u32
 }
 
-// Clocks pass, after those that passed before. The numbers of those that open go into the row, as far as it reaches.
+// Clocks pass, after those that passed before. The numbers of those that open go into the row, as far as it reaches, and how many
+// there were to `opened`.
 #[no_mangle]
 pub extern "C" fn pit_clocks(
     device: &mut [u8],
     clocks: u32,
     passed: u32,
     openings: &mut [u32],
+    opened: &mut u32,
 ) -> u32
-    ensures answer { λ r. ⌜ r ≡ clocksAnswer (now (device .entry)) clocks passed ⌝ }
+    ensures answer { λ r. ⌜ r ≡ done (now (device .entry)) ⌝ }
     ensures device { λ _. ⌜ now (device .exit) ≡ clocksCall (now (device .entry)) clocks ⌝ }
     ensures openings { λ _. ⌜ now (openings .exit) ≡ clocksRow (now (device .entry)) clocks passed (now (openings .entry)) ⌝ }
+    ensures opened { λ _. ⌜ now (opened .exit) ≡ clocksOpened (now (device .entry)) clocks passed (now (opened .entry)) ⌝ }
 {
     if device.len() != SIZE {
         return WRONG_SIZE;
@@ -136,7 +137,8 @@ pub extern "C" fn pit_clocks(
     let run = device_of(device).clocks(clocks, ClockNumber(passed), openings, 0);
     let after = run.device;
     put_device(after, device);
-    run.used as u32
+    *opened = run.used as u32;
+    0
 }
 
 // Resets the part.
@@ -160,7 +162,7 @@ pub extern "C" fn pit_port_acknowledge(device: &[u8]) -> u32
     if device.len() != SIZE {
         return WRONG_SIZE;
     }
-    answer_number(device_of(device).port_acknowledge())
+    answer_number(parallel_of(device).acknowledge())
 }
 
 // Acknowledges a timer interrupt.
@@ -171,7 +173,7 @@ pub extern "C" fn pit_timer_acknowledge(device: &[u8]) -> u32
     if device.len() != SIZE {
         return WRONG_SIZE;
     }
-    answer_number(device_of(device).timer_acknowledge())
+    answer_number(gate_of(device).timer.acknowledge())
 }
 
 // The levels shown at the 28 pins.

@@ -1,18 +1,20 @@
-// The device as 52 bytes (include/pit.h, 'Layout of the device').
+// The device as bytes (include/pit.h, 'Layout of the device'). What stands at which place is said here once for each way: in
+// `bytes_of`, and in `parallel_of` and `gate_of`.
 use device::Device;
-use device::Outside;
-use port::Buffer;
+use gate::Gate;
+use parallel::Parallel;
+use port::Cells;
+use port::Link;
 use port::Port;
 use port::Strobe;
 use port_c::PortC;
 use timer::Count;
+use timer::Phase;
 use timer::Prescaler;
 use timer::Timer;
 ghost use mathlib.Core.Path.{_≡_};
-ghost use Prim.Native.Nat.{_+_, _≤_};
 ghost use lib.ListN.{length};
-ghost use lib.Seq.{sets};
-ghost use Rattle.pit_c.specs.Layout.{size, numberOf, portAt, timerOf, outsideOf, deviceOf, numberBytes, portBytes, timerBytes, outsideBytes, bytesOf};
+ghost use Rattle.pit_c.specs.Layout.{size, numberOf, bytesOf, parallelOf, gateWith, gateOf, deviceOf};
 
 // How many bytes a device takes.
 pub(crate) const SIZE: usize = 52;
@@ -24,165 +26,179 @@ pub(crate) fn number_of(b0: u8, b1: u8, b2: u8, b3: u8) -> u32
     (b0 as u32) + (b1 as u32) * 0x100 + (b2 as u32) * 0x10000 + (b3 as u32) * 0x1000000
 }
 
-// The port of the thirteen bytes from place i on.
-fn port_at(bytes: &[u8], i: usize) -> Port
-    requires { ⌜ i + 13 ≤ length (now bytes) ⌝ }
-    ensures { λ r. ⌜ r ≡ portAt (now (bytes .entry)) i ⌝ }
+// The bytes of a device.
+fn bytes_of(d: Device) -> [u8; SIZE]
+    ensures { λ r. ⌜ r ≡ bytesOf d ⌝ }
 {
-    Port {
-        direction: bytes[i],
-        control: bytes[i + 1],
-        buffer: Buffer {
-            latch: bytes[i + 2],
-            initial: bytes[i + 3],
-            first: bytes[i + 4],
-            second: bytes[i + 5],
-            held: bytes[i + 6],
-            last: bytes[i + 7],
+    [
+        d.parallel.pgcr,
+        d.parallel.psrr,
+        d.parallel.pivr,
+        d.parallel.a.direction,
+        d.parallel.h12.control,
+        d.parallel.a.cells.latch,
+        d.parallel.a.cells.initial,
+        d.parallel.a.cells.first,
+        d.parallel.a.cells.second,
+        d.parallel.h12.held,
+        d.parallel.a.cells.last,
+        d.parallel.h12.strobe.wait,
+        d.parallel.h12.strobe.pulse,
+        d.parallel.h12.strobe.asserted as u8,
+        d.parallel.h12.flag1 as u8,
+        d.parallel.h12.flag2 as u8,
+        d.parallel.b.direction,
+        d.parallel.h34.control,
+        d.parallel.b.cells.latch,
+        d.parallel.b.cells.initial,
+        d.parallel.b.cells.first,
+        d.parallel.b.cells.second,
+        d.parallel.h34.held,
+        d.parallel.b.cells.last,
+        d.parallel.h34.strobe.wait,
+        d.parallel.h34.strobe.pulse,
+        d.parallel.h34.strobe.asserted as u8,
+        d.parallel.h34.flag1 as u8,
+        d.parallel.h34.flag2 as u8,
+        d.gate.c.direction,
+        d.gate.c.latch,
+        d.gate.timer.tcr,
+        d.gate.timer.tivr,
+        (d.gate.timer.preload.0 % 0x100) as u8,
+        (d.gate.timer.preload.0 / 0x100 % 0x100) as u8,
+        (d.gate.timer.preload.0 / 0x10000 % 0x100) as u8,
+        (d.gate.timer.preload.0 / 0x1000000 % 0x100) as u8,
+        (d.gate.timer.count.0 % 0x100) as u8,
+        (d.gate.timer.count.0 / 0x100 % 0x100) as u8,
+        (d.gate.timer.count.0 / 0x10000 % 0x100) as u8,
+        (d.gate.timer.count.0 / 0x1000000 % 0x100) as u8,
+        d.gate.timer.phase.prescaler.0,
+        d.gate.timer.phase.zds as u8,
+        d.gate.timer.phase.square as u8,
+        d.gate.timer.phase.due as u8,
+        d.parallel.a.outside,
+        d.parallel.b.outside,
+        d.gate.c.outside,
+        d.parallel.h12.level1 as u8,
+        d.parallel.h12.level2 as u8,
+        d.parallel.h34.level1 as u8,
+        d.parallel.h34.level2 as u8,
+    ]
+}
+
+// The half of ports and handshakes that bytes stand for. They are read where they are lent: a copy of them, of a length that the
+// compiler does not see, would stay in every call (docs/PERFORMANCE.md).
+pub(crate) fn parallel_of(l: &[u8]) -> Parallel
+    requires { ⌜ length (now l) ≡ size ⌝ }
+    ensures { λ r. ⌜ r ≡ parallelOf (now (l .entry)) ⌝ }
+{
+    Parallel {
+        pgcr: l[0],
+        psrr: l[1],
+        pivr: l[2],
+        a: Port {
+            direction: l[3],
+            cells: Cells {
+                latch: l[5],
+                initial: l[6],
+                first: l[7],
+                second: l[8],
+                last: l[10],
+            },
+            outside: l[45],
         },
-        strobe: Strobe {
-            wait: bytes[i + 8],
-            pulse: bytes[i + 9],
-            asserted: bytes[i + 10] != 0,
+        b: Port {
+            direction: l[16],
+            cells: Cells {
+                latch: l[18],
+                initial: l[19],
+                first: l[20],
+                second: l[21],
+                last: l[23],
+            },
+            outside: l[46],
         },
-        h1: bytes[i + 11] != 0,
-        h2: bytes[i + 12] != 0,
+        h12: Link {
+            control: l[4],
+            held: l[9],
+            strobe: Strobe {
+                wait: l[11],
+                pulse: l[12],
+                asserted: l[13] != 0,
+            },
+            flag1: l[14] != 0,
+            flag2: l[15] != 0,
+            level1: l[48] != 0,
+            level2: l[49] != 0,
+        },
+        h34: Link {
+            control: l[17],
+            held: l[22],
+            strobe: Strobe {
+                wait: l[24],
+                pulse: l[25],
+                asserted: l[26] != 0,
+            },
+            flag1: l[27] != 0,
+            flag2: l[28] != 0,
+            level1: l[50] != 0,
+            level2: l[51] != 0,
+        },
     }
 }
 
-// The timer, bytes 31 to 44.
-fn timer_of(bytes: &[u8]) -> Timer
-    requires { ⌜ length (now bytes) ≡ size ⌝ }
-    ensures { λ r. ⌜ r ≡ timerOf (now (bytes .entry)) ⌝ }
+// The half of timer and port C that bytes, and the two numbers among them, stand for.
+fn gate_with(l: &[u8], preload: u32, count: u32) -> Gate
+    requires { ⌜ length (now l) ≡ size ⌝ }
+    ensures { λ r. ⌜ r ≡ gateWith (now (l .entry)) preload count ⌝ }
 {
-    Timer {
-        tcr: bytes[31],
-        tivr: bytes[32],
-        preload: Count(number_of(bytes[33], bytes[34], bytes[35], bytes[36])),
-        count: Count(number_of(bytes[37], bytes[38], bytes[39], bytes[40])),
-        prescaler: Prescaler(bytes[41]),
-        zds: bytes[42] != 0,
-        square: bytes[43] != 0,
-        due: bytes[44] != 0,
-    }
-}
-
-// The outside levels, bytes 45 to 51.
-fn outside_of(bytes: &[u8]) -> Outside
-    requires { ⌜ length (now bytes) ≡ size ⌝ }
-    ensures { λ r. ⌜ r ≡ outsideOf (now (bytes .entry)) ⌝ }
-{
-    Outside {
-        a: bytes[45],
-        b: bytes[46],
-        c: bytes[47],
-        h1: bytes[48] != 0,
-        h2: bytes[49] != 0,
-        h3: bytes[50] != 0,
-        h4: bytes[51] != 0,
-    }
-}
-
-// The device that 52 bytes stand for.
-pub(crate) fn device_of(bytes: &[u8]) -> Device
-    requires { ⌜ length (now bytes) ≡ size ⌝ }
-    ensures { λ r. ⌜ r ≡ deviceOf (now (bytes .entry)) ⌝ }
-{
-    let a = port_at(bytes, 3);
-    let b = port_at(bytes, 16);
-    let timer = timer_of(bytes);
-    let outside = outside_of(bytes);
-    Device {
-        pgcr: bytes[0],
-        psrr: bytes[1],
-        pivr: bytes[2],
-        a: a,
-        b: b,
+    Gate {
+        timer: Timer {
+            tcr: l[31],
+            tivr: l[32],
+            preload: Count(preload),
+            count: Count(count),
+            phase: Phase {
+                prescaler: Prescaler(l[41]),
+                zds: l[42] != 0,
+                square: l[43] != 0,
+                due: l[44] != 0,
+            },
+        },
         c: PortC {
-            direction: bytes[29],
-            latch: bytes[30],
+            direction: l[29],
+            latch: l[30],
+            outside: l[47],
         },
-        timer: timer,
-        outside: outside,
     }
 }
 
-// Stores a number as four bytes, least significant first.
-fn put_number(bytes: &mut [u8], i: usize, number: u32)
-    requires { ⌜ i + 4 ≤ length (now bytes) ⌝ }
-    ensures { λ _. ⌜ now (bytes .exit) ≡ sets (now (bytes .entry)) i (numberBytes number) ⌝ }
+// The half of timer and port C that bytes stand for.
+pub(crate) fn gate_of(l: &[u8]) -> Gate
+    requires { ⌜ length (now l) ≡ size ⌝ }
+    ensures { λ r. ⌜ r ≡ gateOf (now (l .entry)) ⌝ }
 {
-    bytes[i] = (number % 0x100) as u8;
-    bytes[i + 1] = (number / 0x100 % 0x100) as u8;
-    bytes[i + 2] = (number / 0x10000 % 0x100) as u8;
-    bytes[i + 3] = (number / 0x1000000 % 0x100) as u8;
+    let preload = number_of(l[33], l[34], l[35], l[36]);
+    let count = number_of(l[37], l[38], l[39], l[40]);
+    gate_with(l, preload, count)
 }
 
-// Stores a port as thirteen bytes.
-fn put_port(bytes: &mut [u8], i: usize, port: Port)
-    requires { ⌜ i + 13 ≤ length (now bytes) ⌝ }
-    ensures { λ _. ⌜ now (bytes .exit) ≡ sets (now (bytes .entry)) i (portBytes port) ⌝ }
+// The device that bytes stand for.
+pub(crate) fn device_of(l: &[u8]) -> Device
+    requires { ⌜ length (now l) ≡ size ⌝ }
+    ensures { λ r. ⌜ r ≡ deviceOf (now (l .entry)) ⌝ }
 {
-    bytes[i] = port.direction;
-    bytes[i + 1] = port.control;
-    bytes[i + 2] = port.buffer.latch;
-    bytes[i + 3] = port.buffer.initial;
-    bytes[i + 4] = port.buffer.first;
-    bytes[i + 5] = port.buffer.second;
-    bytes[i + 6] = port.buffer.held;
-    bytes[i + 7] = port.buffer.last;
-    bytes[i + 8] = port.strobe.wait;
-    bytes[i + 9] = port.strobe.pulse;
-    bytes[i + 10] = bits::weight(port.strobe.asserted, 1);
-    bytes[i + 11] = bits::weight(port.h1, 1);
-    bytes[i + 12] = bits::weight(port.h2, 1);
+    Device {
+        parallel: parallel_of(l),
+        gate: gate_of(l),
+    }
 }
 
-// Stores the timer.
-fn put_timer(bytes: &mut [u8], timer: Timer)
-    requires { ⌜ length (now bytes) ≡ size ⌝ }
-    ensures { λ _. ⌜ now (bytes .exit) ≡ sets (now (bytes .entry)) 31 (timerBytes timer) ⌝ }
-{
-    bytes[31] = timer.tcr;
-    bytes[32] = timer.tivr;
-    put_number(bytes, 33, timer.preload.0);
-    put_number(bytes, 37, timer.count.0);
-    bytes[41] = timer.prescaler.0;
-    bytes[42] = bits::weight(timer.zds, 1);
-    bytes[43] = bits::weight(timer.square, 1);
-    bytes[44] = bits::weight(timer.due, 1);
-}
-
-// Stores the outside levels.
-fn put_outside(bytes: &mut [u8], outside: Outside)
-    requires { ⌜ length (now bytes) ≡ size ⌝ }
-    ensures { λ _. ⌜ now (bytes .exit) ≡ sets (now (bytes .entry)) 45 (outsideBytes outside) ⌝ }
-{
-    bytes[45] = outside.a;
-    bytes[46] = outside.b;
-    bytes[47] = outside.c;
-    bytes[48] = bits::weight(outside.h1, 1);
-    bytes[49] = bits::weight(outside.h2, 1);
-    bytes[50] = bits::weight(outside.h3, 1);
-    bytes[51] = bits::weight(outside.h4, 1);
-}
-
-// Stores a device in 52 bytes.
+// Puts a device into the bytes that are lent. The compiler stores there at once, without the row between.
 pub(crate) fn put_device(device: Device, bytes: &mut [u8])
     requires { ⌜ length (now bytes) ≡ size ⌝ }
     ensures { λ _. ⌜ now (bytes .exit) ≡ bytesOf device ⌝ }
 {
-    let a = device.a;
-    let b = device.b;
-    let timer = device.timer;
-    let outside = device.outside;
-    bytes[0] = device.pgcr;
-    bytes[1] = device.psrr;
-    bytes[2] = device.pivr;
-    put_port(bytes, 3, a);
-    put_port(bytes, 16, b);
-    bytes[29] = device.c.direction;
-    bytes[30] = device.c.latch;
-    put_timer(bytes, timer);
-    put_outside(bytes, outside);
+    let row = bytes_of(device);
+    bytes::copy(&row, bytes);
 }

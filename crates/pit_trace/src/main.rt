@@ -146,10 +146,11 @@ fn main() {
     }
     let mut bytes = [0u8; 32768];
     let mut row = [0u32; 8192];
-    let o = play::play(&list[..n], Device::fresh(), &mut bytes, &mut row);
+    let given = &list[..n];
+    let o = play::play(given, Device::fresh(), &mut bytes, &mut row);
     report::refusal(o.refusal, o.place);
     if o.refusal == 0 {
-        events(&list[..n]);
+        events(given);
         report::openings(&row, o.openings);
         report::clocks(o.clocks);
     }

@@ -1,41 +1,136 @@
--- What an event leaves, from what the function for it left.
-use Prim.Native.Nat.{ℕ, _+_}
+-- What each event leaves of a run, from what the device's method and the stores for it left.
+use Prim.Native.Nat.{ℕ, zero, suc, _+_, _<_}
 use mathlib.Core.Path.{_≡_, refl, sym, ap, _∙_}
-use mathlib.Core.List.{List, []}
-use native.Mathlib.Nat.{add-zero}
+use mathlib.Core.Bool.{Bool, true, false}
+use mathlib.Core.List.{List, [], _∷_, map}
+use native.Mathlib.Nat.{add-zero, mod-eq-of-lt}
+use native.Mathlib.Omega.{arith}
 use lib.ListN.{length}
 use lib.Seq.{sets}
+use Rattle.event.specs.declared.Answer.{Answer}
 use Rattle.event.specs.declared.Event.{Event}
-use Rattle.device.specs.Events.{Made, silently, answering}
+use Rattle.event.specs.declared.Event.the-variants.{Write, Read, PortAcknowledge, TimerAcknowledge, Pin, Clocks, Reset}
+use Rattle.timer.specs.Running.{mark}
+use Rattle.clocks.specs.Clocks.{numbers, clockNumber}
+use Rattle.device.specs.Clocking.{clockedDevice, openings, runOf}
+use Rattle.device.specs.Fresh.{resetOf}
+use Rattle.device.specs.Interrupts.{portAcknowledge, timerAcknowledge}
+use Rattle.device.specs.Pins.{pinOf}
+use Rattle.device.specs.Registers.{readOf, writeOf}
+use Rattle.device.specs.Events.{Made, answerBytes, silently, answering, effect}
 use Rattle.device.specs.declared.Device.{Device}
-use Rattle.play.specs.Run.{withDevice, answeredWith, tallied, next, Performed}
-use Rattle.play.specs.declared.tally.Tally.{Tally}
+use Rattle.device.specs.declared.ReadOut.{ReadOut}
+use Rattle.device.specs.declared.Run.{Run}
+use Rattle.device.specs.declared.Stepped.{Stepped}
+use Rattle.survey.specs.Needed.{two-bytes}
 
--- two tallies are equal by their fields
-pub same-tally : (x y : Tally) → x .device ≡ y .device → x .answers ≡ y .answers → x .openings ≡ y .openings → x .clocks ≡ y .clocks → x ≡ y
-same-tally x y p q r s = λ i. record { device = p i; answers = q i; openings = r i; clocks = s i }
+-- a run so far: the device by now, how many answer bytes and openings there were, and how many clocks passed
+pub record Tally : Type 0 where
+  pub device : Device
+  pub answers : ℕ
+  pub openings : ℕ
+  pub clocks : ℕ
 
-module _ (t : Tally) (e : Event) (d : Device) (r : Tally) (A R : List ℕ) where
-  -- an event that answers nothing and opens nothing
-  pub quiet : next t e ≡ silently d (t .clocks) → r ≡ withDevice t d → Performed t e r A A R R
-  quiet h p = record {
-    tally = p ∙ same-tally (withDevice t d) (tallied t (silently d (t .clocks))) refl (sym (add-zero (t .answers))) (sym (add-zero (t .openings))) refl ∙ ap (tallied t) (sym h);
-    bytes = ap (λ (m : Made). sets A (t .answers) (m .answers)) (sym h);
-    row = ap (λ (m : Made). sets R (t .openings) (m .openings)) (sym h);
+abbrev pub tally : Device → ℕ → ℕ → ℕ → Tally
+tally d a o k = record { device = d; answers = a; openings = o; clocks = k }
+
+-- from a tally and what the bytes and the row hold to the next, by what is made
+pub record Leaves (t : Tally) (A R : List ℕ) (m : Made) (t′ : Tally) (A′ R′ : List ℕ) : Type 0 where
+  pub device : t′ .device ≡ m .device
+  pub answers : t′ .answers ≡ t .answers + length (m .answers)
+  pub openings : t′ .openings ≡ t .openings + length (m .openings)
+  pub clocks : t′ .clocks ≡ m .clocks
+  pub bytes : A′ ≡ sets A (t .answers) (m .answers)
+  pub row : R′ ≡ sets R (t .openings) (m .openings)
+
+-- where no clock's number is past 32 bits, the numbers are as they are counted
+numbers-fit : (n k : ℕ) (d : Device) → k + n < numbers → map clockNumber (openings n k d) ≡ openings n k d
+unfolding openings
+numbers-fit zero k d fits = refl
+numbers-fit (suc n) k d fits = marked (clockedDevice d .opened) (openings n (suc k) (clockedDevice d .device)) (numbers-fit n (suc k) (clockedDevice d .device) (omega arith))
+  where
+    marked : (b : Bool) (l : List ℕ) → map clockNumber l ≡ l → map clockNumber (mark b (suc k) l) ≡ mark b (suc k) l
+    marked true l e = let h : clockNumber (suc k) ≡ suc k = mod-eq-of-lt (omega arith) in rw (h, e)
+    marked false l e = e
+
+module _ {t : Tally} {A R : List ℕ} where
+  -- nothing is answered, and nothing opens
+  quiet : {x y : Device} → x ≡ y → Leaves t A R (silently y (t .clocks)) (tally x (t .answers) (t .openings) (t .clocks)) A R
+  quiet p = record {
+    device = p;
+    answers = sym (add-zero (t .answers));
+    openings = sym (add-zero (t .openings));
+    clocks = refl;
+    bytes = refl;
+    row = refl;
   }
 
-  -- an event that answers two bytes
-  pub told : (xs : List ℕ) → length xs ≡ 2 → (A′ : List ℕ) → next t e ≡ answering d xs (t .clocks) → r ≡ answeredWith t d → A′ ≡ sets A (t .answers) xs → Performed t e r A A′ R R
-  told xs two A′ h p q = record {
-    tally = p ∙ same-tally (answeredWith t d) (tallied t (answering d xs (t .clocks))) refl (ap (λ (n : ℕ). t .answers + n) (sym two)) (sym (add-zero (t .openings))) refl ∙ ap (tallied t) (sym h);
-    bytes = q ∙ ap (λ (m : Made). sets A (t .answers) (m .answers)) (sym h);
-    row = ap (λ (m : Made). sets R (t .openings) (m .openings)) (sym h);
+  pub wrote : (r v : ℕ) {x : Device} → x ≡ writeOf (t .device) r v
+      → Leaves t A R (effect (t .device) (t .clocks) (Write r v)) (tally x (t .answers) (t .openings) (t .clocks)) A R
+  unfolding effect
+  wrote r v p = quiet p
+
+  pub was-reset : {x : Device} → x ≡ resetOf (t .device)
+      → Leaves t A R (effect (t .device) (t .clocks) Reset) (tally x (t .answers) (t .openings) (t .clocks)) A R
+  unfolding effect
+  was-reset p = quiet p
+
+  pub was-read : (r : ℕ) {x : ReadOut} {A′ : List ℕ} → x ≡ readOf (t .device) r → A′ ≡ sets A (t .answers) (1 ∷ x .byte ∷ [])
+      → Leaves t A R (effect (t .device) (t .clocks) (Read r)) (tally (x .device) (t .answers + 2) (t .openings) (t .clocks)) A′ R
+  unfolding effect
+  was-read r p q = record {
+    device = ap (λ (y : ReadOut). y .device) p;
+    answers = refl;
+    openings = sym (add-zero (t .openings));
+    clocks = refl;
+    bytes = q ∙ ap (λ (y : ReadOut). sets A (t .answers) (1 ∷ y .byte ∷ [])) p;
+    row = refl;
   }
 
--- an event that answers nothing and may open
-pub opens : (t : Tally) (e : Event) (r : Tally) (A R R′ : List ℕ) (e′ : Event) → e ≡ e′ → next t e′ .answers ≡ [] → r ≡ tallied t (next t e′) → R′ ≡ sets R (t .openings) (next t e′ .openings) → Performed t e r A A R R′
-opens t e r A R R′ e′ h z p q = record {
-  tally = p ∙ ap (λ (x : Event). tallied t (next t x)) (sym h);
-  bytes = ap (sets A (t .answers)) (sym z) ∙ ap (λ (x : Event). sets A (t .answers) (next t x .answers)) (sym h);
-  row = q ∙ ap (λ (x : Event). sets R (t .openings) (next t x .openings)) (sym h);
-}
+  -- an acknowledge changes nothing
+  acknowledged : {x y : Answer} {A′ : List ℕ} → x ≡ y → A′ ≡ sets A (t .answers) (answerBytes x)
+      → Leaves t A R (answering (t .device) (answerBytes y) (t .clocks)) (tally (t .device) (t .answers + 2) (t .openings) (t .clocks)) A′ R
+  acknowledged {y = y} p q = record {
+    device = refl;
+    answers = ap (λ (n : ℕ). t .answers + n) (sym (two-bytes y));
+    openings = sym (add-zero (t .openings));
+    clocks = refl;
+    bytes = q ∙ ap (λ (z : Answer). sets A (t .answers) (answerBytes z)) p;
+    row = refl;
+  }
+
+  pub port-acknowledged : {x : Answer} {A′ : List ℕ} → x ≡ portAcknowledge (t .device) → A′ ≡ sets A (t .answers) (answerBytes x)
+      → Leaves t A R (effect (t .device) (t .clocks) PortAcknowledge) (tally (t .device) (t .answers + 2) (t .openings) (t .clocks)) A′ R
+  unfolding effect
+  port-acknowledged p q = acknowledged p q
+
+  pub timer-acknowledged : {x : Answer} {A′ : List ℕ} → x ≡ timerAcknowledge (t .device) → A′ ≡ sets A (t .answers) (answerBytes x)
+      → Leaves t A R (effect (t .device) (t .clocks) TimerAcknowledge) (tally (t .device) (t .answers + 2) (t .openings) (t .clocks)) A′ R
+  unfolding effect
+  timer-acknowledged p q = acknowledged p q
+
+  pub pinned : (n : ℕ) (level : Bool) {x : Stepped} {j : ℕ} {R′ : List ℕ} → x ≡ pinOf (t .device) n level
+      → (j ≡ length (mark (x .opened) (t .clocks) [])) × (R′ ≡ sets R (t .openings) (mark (x .opened) (t .clocks) []))
+      → Leaves t A R (effect (t .device) (t .clocks) (Pin n level)) (tally (x .device) (t .answers) (t .openings + j) (t .clocks)) A R′
+  unfolding effect
+  pinned n level p q = record {
+    device = ap (λ (y : Stepped). y .device) p;
+    answers = sym (add-zero (t .answers));
+    openings = ap (λ (i : ℕ). t .openings + i) (q .0 ∙ ap (λ (y : Stepped). length (mark (y .opened) (t .clocks) [])) p);
+    clocks = refl;
+    bytes = refl;
+    row = q .1 ∙ ap (λ (y : Stepped). sets R (t .openings) (mark (y .opened) (t .clocks) [])) p;
+  }
+
+  pub clocked : (n : ℕ) {x : Run} {R′ : List ℕ} → t .clocks + n < numbers
+      → (x ≡ runOf n (t .clocks) (t .device)) × (R′ ≡ sets R (t .openings) (map clockNumber (openings n (t .clocks) (t .device))))
+      → Leaves t A R (effect (t .device) (t .clocks) (Clocks n)) (tally (x .device) (t .answers) (t .openings + x .used) (t .clocks + n)) A R′
+  unfolding effect runOf
+  clocked n fits p = record {
+    device = ap (λ (y : Run). y .device) (p .0);
+    answers = sym (add-zero (t .answers));
+    openings = ap (λ (y : Run). t .openings + y .used) (p .0);
+    clocks = refl;
+    bytes = refl;
+    row = p .1 ∙ ap (sets R (t .openings)) (numbers-fit n (t .clocks) (t .device) fits);
+  }

@@ -13,10 +13,9 @@ use Rattle.wire.specs.List.{Parsed, events, refused, parsed}
 use Rattle.device.specs.Events.{made}
 use Rattle.device.specs.Validity.{validOf}
 use Rattle.device.specs.declared.Device.{Device}
-use Rattle.play.specs.Play.{result, refusal, acceptance, settled, settle, playOf}
-use Rattle.play.specs.Run.{startAt, tallied, ended, laidOf, acceptedTally}
+use Rattle.play.specs.Play.{result, acceptedOutcome, refusal, acceptance, settled, settle, playOf}
+use Rattle.play.specs.Run.{stored}
 use Rattle.survey.specs.Survey.{roomOf, surveyedOf}
-use Rattle.play.specs.declared.tally.Tally.{Tally}
 use Rattle.survey.specs.declared.surveying.Room.{Room}
 use Rattle.survey.specs.declared.surveying.Surveyed.the-variants.{Whole, Refused}
 
@@ -80,15 +79,11 @@ module _ (s : List ℕ) (d : Device) (A O : List ℕ) where
     over : (xs l : List ℕ) → length xs ≤ length l → sets l 0 xs ≡ xs ++ drop (length xs) l
     over xs l g = sets-eq xs l 0 (rw zero-add g) ∙ ap (λ (k : ℕ). xs ++ drop k l) (zero-add (length xs))
 
-    -- all fits, and the run left what the events make
-    pub accepts : n .answers ≤ length A → n .openings ≤ length O → (r : Tally) (A′ O′ : List ℕ) → ended r A′ O′ ≡ laidOf (startAt d) A O (events (t .es)) → result (acceptedTally r) A′ O′ ≡ playOf s d A O
-    accepts a l r A′ O′ w =
+    -- all fits, and what the events make is stored
+    pub accepts : n .answers ≤ length A → n .openings ≤ length O → stored (made d 0 (t .es)) A O ≡ playOf s d A O
+    accepts a l =
         let m = made d 0 (t .es) in
         let ha : length (m .answers) ≤ length A = omega (arith, answers-are) in
         let ho : length (m .openings) ≤ length O = omega (arith, openings-are) in
-        let er : r ≡ tallied (startAt d) m = cc in
-        let ea : A′ ≡ m .answers ++ drop (length (m .answers)) A = (let e : A′ ≡ sets A 0 (m .answers) = cc in e) ∙ over (m .answers) A ha in
-        let eo : O′ ≡ m .openings ++ drop (length (m .openings)) O = (let e : O′ ≡ sets O 0 (m .openings) = cc in e) ∙ over (m .openings) O ho in
-        let z : result (acceptedTally (tallied (startAt d) m)) (m .answers ++ drop (length (m .answers)) A) (m .openings ++ drop (length (m .openings)) O) ≡ acceptance d A O m = simp zero-add in
         let y : settled d A O m ≡ acceptance d A O m = simp (le-ltb (length A) (length (m .answers)) ha, le-ltb (length O) (length (m .openings)) ho) in
-        (λ i. result (acceptedTally (er i)) (ea i) (eo i)) ∙ z ∙ sym y ∙ whole
+        (λ i. result (acceptedOutcome m) (over (m .answers) A ha i) (over (m .openings) O ho i)) ∙ sym y ∙ whole

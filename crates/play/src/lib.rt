@@ -1,8 +1,7 @@
 // Plays an event list on a device (01, 'The event list').
-mod performing;
 mod playing;
 mod running;
-mod tally;
+mod storing;
 
 pub use playing::Outcome;
 pub use playing::play;

@@ -1,12 +1,10 @@
 // The whole call.
 use crate::running::run;
-use crate::tally::Tally;
 use device::Device;
 use survey::Surveyed;
 use survey::survey;
 ghost use mathlib.Core.Path.{_≡_};
 ghost use Rattle.play.specs.Play.{refusedOutcome, Plays};
-ghost use Rattle.play.specs.Run.{acceptedTally, unreadOutcome};
 
 // What a call hands back: a refusal, 0 for none, with its place in bits; the totals; the device.
 pub struct Outcome {
@@ -18,6 +16,7 @@ pub struct Outcome {
     pub device: Device,
 }
 
+// A refusal: zero totals, and the device that was given.
 fn refused(refusal: u8, place: usize, device: Device) -> Outcome
     ensures { λ r. ⌜ r ≡ refusedOutcome refusal place device ⌝ }
 {
@@ -31,30 +30,6 @@ fn refused(refusal: u8, place: usize, device: Device) -> Outcome
     }
 }
 
-fn accepted(t: Tally) -> Outcome
-    ensures { λ r. ⌜ r ≡ acceptedTally t ⌝ }
-{
-    let device = t.device;
-    Outcome {
-        refusal: 0,
-        place: 0,
-        answers: t.answers,
-        openings: t.openings,
-        clocks: t.clocks,
-        device: device,
-    }
-}
-
-// A list that the first pass refuses.
-fn unread(surveyed: Surveyed, device: Device) -> Outcome
-    ensures { λ r. ⌜ r ≡ unreadOutcome surveyed device ⌝ }
-{
-    match surveyed {
-        Surveyed::Refused(number, place) => refused(number, place, device),
-        Surveyed::Whole(_) => refused(0, 0, device),
-    }
-}
-
 // Plays a list on a device: one pass over the list to refuse it or to know what room it needs, and one to play it. A refused call
 // writes nothing lent.
 pub fn play(list: &[u8], device: Device, answers: &mut [u8], openings: &mut [u32]) -> Outcome
@@ -64,14 +39,16 @@ pub fn play(list: &[u8], device: Device, answers: &mut [u8], openings: &mut [u32
         return refused(8, 0, device);
     }
     let surveyed = survey(list, device);
-    let Surveyed::Whole(room) = surveyed else {
-        return unread(surveyed, device);
-    };
-    if answers.len() < room.answers {
-        return refused(6, 0, device);
+    match surveyed {
+        Surveyed::Whole(room) => {
+            if answers.len() < room.answers {
+                return refused(6, 0, device);
+            }
+            if openings.len() < room.openings {
+                return refused(7, 0, device);
+            }
+            run(list, device, answers, openings)
+        }
+        Surveyed::Refused(number, place) => refused(number, place, device),
     }
-    if openings.len() < room.openings {
-        return refused(7, 0, device);
-    }
-    accepted(run(list, device, answers, openings))
 }

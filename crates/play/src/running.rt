@@ -1,24 +1,80 @@
 // A list's events in turn.
-use crate::performing::perform;
-use crate::tally::Tally;
+use crate::playing::Outcome;
+use crate::storing::acknowledge;
+use crate::storing::answer;
+use crate::storing::note_opening;
 use device::Device;
+use event::Event;
+use timer::ClockNumber;
 use wire::Next;
-ghost use mathlib.Core.Path.{_≡_};
-ghost use Rattle.wire.specs.List.{parsed, events};
-ghost use Rattle.play.specs.Run.{startAt, laidOf, ended};
+ghost use Rattle.play.specs.Run.{Runs};
 
-// Plays a list's events. What does not fit the bytes and the row is counted and not stored.
-pub fn run(list: &[u8], device: Device, answers: &mut [u8], row: &mut [u32]) -> Tally
-    ensures { λ r. ⌜ ((es : _) → parsed (now (list .entry)) ≡ events es → ended r (now (answers .exit)) (now (row .exit)) ≡ laidOf (startAt device) (now (answers .entry)) (now (row .entry)) (events es)) ⌝ }
+// Plays the events of a list that the first pass took: what is no event there is its end. What does not fit the bytes and the row is
+// counted and not stored. The device stands in one place, and each event leaves what it changes there: handed on with the totals, it is
+// copied for every event (docs/PERFORMANCE.md).
+pub(crate) fn run(list: &[u8], given: Device, answers: &mut [u8], row: &mut [u32]) -> Outcome
+    ensures { λ r. ⌜ Runs (now (list .entry)) given (now (answers .entry)) (now (row .entry)) r (now (answers .exit)) (now (row .exit)) ⌝ }
 {
-    let mut t = Tally::start(device);
-    let mut at = 0;
+    let mut device = given;
+    let mut answered: usize = 0;
+    let mut opened: usize = 0;
+    let mut clocks: u32 = 0;
+    let mut at: usize = 0;
     loop {
         let next = wire::next_event(list, at);
-        let Next::Play(_, after) = next else {
-            return t;
+        let Next::Play(event, after) = next else {
+            return Outcome {
+                refusal: 0,
+                place: 0,
+                answers: answered,
+                openings: opened,
+                clocks: clocks,
+                device: device,
+            };
         };
-        t = perform(t, next, answers, row);
         at = after;
+        match event {
+            Event::Write(register, value) => {
+                device = device.write(register, value);
+                continue;
+            }
+            Event::Read(register) => {
+                let got = device.read(register);
+                let left = got.device;
+                device = left;
+                answer(answers, answered, 1, got.byte);
+                answered += 2;
+                continue;
+            }
+            Event::PortAcknowledge => {
+                acknowledge(answers, answered, device.port_acknowledge());
+                answered += 2;
+                continue;
+            }
+            Event::TimerAcknowledge => {
+                acknowledge(answers, answered, device.timer_acknowledge());
+                answered += 2;
+                continue;
+            }
+            Event::Pin(pin, level) => {
+                let stepped = device.pin(pin, level);
+                let left = stepped.device;
+                device = left;
+                opened += note_opening(row, opened, stepped.opened, clocks);
+                continue;
+            }
+            Event::Clocks(n) => {
+                let run = device.clocks(n, ClockNumber(clocks), row, opened);
+                let left = run.device;
+                device = left;
+                opened += run.used;
+                clocks += n;
+                continue;
+            }
+            Event::Reset => {
+                device = device.reset();
+                continue;
+            }
+        }
     }
 }

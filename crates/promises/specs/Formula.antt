@@ -5,10 +5,10 @@ use mathlib.Core.List.{List}
 use mathlib.Core.Path.{_≡_, refl, _∙_}
 use lib.ListN.{getD, length}
 use Rattle.event.specs.declared.Event.{Event}
-use Rattle.timer.specs.Control.{rollsOf, clockedOf}
+use Rattle.port_c.specs.Pins.{tinLevel}
+use Rattle.timer.specs.Control.{rollsOf, clockSteps}
 use Rattle.timer.specs.Counting.{full}
 use Rattle.clocks.specs.Periods.{multiples, Loading, enters, openings-are, openings-count, when-it-opens}
-use Rattle.device.specs.Clocking.{tinOf}
 use Rattle.device.specs.Events.{made}
 use Rattle.device.specs.declared.Device.{Device}
 use Rattle.wire.specs.Needs.{needsOf}
@@ -16,35 +16,35 @@ use Rattle.promises.specs.Undisturbed.{Undisturbed, Follows, clocks-alon
 
 -- the timer has just entered run, with source 00, or 01 and TIN high, and with reload: prescaler 31, a load due
 pub record Starts (d : Device) : Type 0 where
-  pub runs : clockedOf (d .timer .tcr) (tinOf d) ≡ true
-  pub reload : rollsOf (d .timer .tcr) ≡ false
-  pub full : d .timer .prescaler .0 ≡ full
-  pub due : d .timer .due ≡ true
+  pub runs : clockSteps (d .gate .timer .tcr) (tinLevel (d .gate .c)) ≡ true
+  pub reload : rollsOf (d .gate .timer .tcr) ≡ false
+  pub full : d .gate .timer .phase .prescaler .0 ≡ full
+  pub due : d .gate .timer .phase .due ≡ true
 
 -- the preload, N
 abbrev pub preloadOf : Device → ℕ
-preloadOf d = d .timer .preload .0
+preloadOf d = d .gate .timer .preload .0
 
 -- events from the start on, k clocks having passed before
-module _ (d : Device) (starts : Starts d) (es : List Event) (undisturbed : Undisturbed (d .timer .tcr) es) (k : ℕ) where
-  high : clockedOf (d .timer .tcr) true ≡ true
-  high = high-runs (d .timer .tcr) (tinOf d) (starts .runs)
+module _ (d : Device) (starts : Starts d) (es : List Event) (undisturbed : Undisturbed (d .gate .timer .tcr) es) (k : ℕ) where
+  high : clockSteps (d .gate .timer .tcr) true ≡ true
+  high = high-runs (d .gate .timer .tcr) (tinLevel (d .gate .c)) (starts .runs)
 
-  itself : Follows (d .timer) (d .timer) (tinOf d)
+  itself : Follows (d .gate .timer) (d .gate)
   itself = record { alike = record { tcr = refl; preload = refl; count = refl; prescaler = refl; due = refl }; runs = starts .runs }
 
   module _ (some : 1 ≤ preloadOf d) where
-    loading : Loading true (d .timer)
-    loading = enters true (d .timer) high (starts .reload) some (starts .full) (starts .due)
+    loading : Loading true (d .gate .timer)
+    loading = enters true (d .gate .timer) high (starts .reload) some (starts .full) (starts .due)
 
     -- With preload N of 1 or more it opens 32 x (N + 1) clocks after the start, and again each time as many have passed; never else.
     pub formula : made d k es .openings ≡ multiples (32 * (preloadOf d + 1)) k (needsOf es .clocks / (32 * (preloadOf d + 1)))
-    formula = clocks-alone es d k (d .timer) itself undisturbed ∙ openings-are true (d .timer) loading (needsOf es .clocks) k
+    formula = clocks-alone es d k (d .gate .timer) itself undisturbed ∙ openings-are true (d .gate .timer) loading (needsOf es .clocks) k
 
     -- It opens once for every 32 x (N + 1) clocks.
     pub how-many : length (made d k es .openings) ≡ needsOf es .clocks / (32 * (preloadOf d + 1))
-    how-many = rw (clocks-alone es d k (d .timer) itself undisturbed) (openings-count true (d .timer) loading (needsOf es .clocks) k)
+    how-many = rw (clocks-alone es d k (d .gate .timer) itself undisturbed) (openings-count true (d .gate .timer) loading (needsOf es .clocks) k)
 
     -- Opening i, counted from 1, comes 32 x i x (N + 1) clocks after the start.
     pub opening-at : (i : ℕ) → 1 ≤ i → i ≤ needsOf es .clocks / (32 * (preloadOf d + 1)) → getD (made d k es .openings) (i - 1) 0 ≡ k + 32 * i * (preloadOf d + 1)
-    opening-at i one most = rw (clocks-alone es d k (d .timer) itself undisturbed) (when-it-opens true (d .timer) loading (needsOf es .clocks) k i one most)
+    opening-at i one most = rw (clocks-alone es d k (d .gate .timer) itself undisturbed) (when-it-opens true (d .gate .timer) loading (needsOf es .clocks) k i one most)

@@ -14,7 +14,7 @@ use Rattle.wire.specs.List.{events, parsed}
 use Rattle.wire.specs.Needs.{needsOf}
 use Rattle.wire.specs.WellFormed.{allWellFormed}
 use Rattle.wire.specs.Totals.{totals}
-use Rattle.device.specs.Clocking.{tinOf}
+use Rattle.port_c.specs.Pins.{tinLevel}
 use Rattle.device.specs.Events.{Made, effect, made}
 use Rattle.device.specs.Validity.{validOf}
 use Rattle.device.specs.declared.Device.{Device}
@@ -37,10 +37,10 @@ deviceStarted d xs e = effect (deviceAfter d xs) (made d 0 xs .clocks) e .device
 
 -- events xs, then one that starts a run from halt with preload N of 1 or more, then events ys that do not disturb it
 pub record Run (d : Device) (xs : List Event) (e : Event) (ys : List Event) : Type 0 where
-  pub halted : runsOf (deviceAfter d xs .timer .tcr) (tinOf (deviceAfter d xs)) ≡ false
+  pub halted : runsOf (deviceAfter d xs .gate .timer .tcr) (tinLevel (deviceAfter d xs .gate .c)) ≡ false
   pub starts : Start (deviceAfter d xs) e
   pub preload : 1 ≤ preloadOf (deviceAfter d xs)
-  pub undisturbed : Undisturbed (deviceStarted d xs e .timer .tcr) ys
+  pub undisturbed : Undisturbed (deviceStarted d xs e .gate .timer .tcr) ys
 
 first-formed : (xs ys : List Event) → allWellFormed (xs ++ ys) → allWellFormed xs
 unfolding allWellFormed

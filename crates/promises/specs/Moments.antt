@@ -27,12 +27,12 @@ singly (e ∷ es) = single e ++ singly es
 
 -- 'Lowering from 1 to 0 is an opening': no load was due, the counter was at 1, and is at 0
 abbrev pub lowersToZero : Timer → Timer → Bool
-lowersToZero t u = not (t .due) && eqb (t .count .0) 1 && eqb (u .count .0) 0
+lowersToZero t u = not (t .phase .due) && eqb (t .count .0) 1 && eqb (u .count .0) 0
 
 -- at each event where the counter is lowered from 1 to 0, the number of clocks passed by then: a clock's own number, and between
 -- clocks the number passed so far
 unfoldable pub moments : Device → ℕ → List Event → List ℕ
 moments d k [] = []
 moments d k (e ∷ es) =
-    mark (lowersToZero (d .timer) (effect d k e .device .timer)) (effect d k e .clocks)
+    mark (lowersToZero (d .gate .timer) (effect d k e .device .gate .timer)) (effect d k e .clocks)
     (moments (effect d k e .device) (effect d k e .clocks) es)

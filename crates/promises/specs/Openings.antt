@@ -2,7 +2,7 @@
 use Prim.Native.Nat.{ℕ, zero, suc, _+_, _≤_}
 use mathlib.Core.Bool.{Bool, true, false, not, _&&_, _||_}
 use mathlib.Core.List.{List, [], _∷_, _++_, append-nil}
-use mathlib.Core.Path.{_≡_, refl, ap, _∙_}
+use mathlib.Core.Path.{_≡_, refl, sym, ap, subst, _∙_}
 use native.Mathlib.Nat.{add-zero}
 use native.Mathlib.Numerals.{add-one}
 use native.Mathlib.Omega.{arith}
@@ -14,31 +14,37 @@ use Rattle.bits.specs.Choice.{branch}
 use Rattle.bits.specs.Field.{bitOf}
 use Rattle.event.specs.declared.Event.{Event}
 use Rattle.event.specs.declared.Event.the-variants.{Write, Read, PortAcknowledge, TimerAcknowledge, Pin, Clocks, Reset}
-use Rattle.timer.specs.Control.{sourceOf, runsOf, clockedOf}
-use Rattle.timer.specs.Counting.{scaledOf, countOf, stepOf, withPrescaler, quiet}
-use Rattle.timer.specs.Running.{clockOf as timerClock, tinOf as tinGoes, mark}
-use Rattle.timer.specs.Registers.{withZds, controlledOf, clearedOf, preloadedOf, resetOf as resetTimer}
+use Rattle.port_c.specs.Pins.{tinLevel}
+use Rattle.timer.specs.Control.{tcrBits, sourceOf, runsOf, clockSteps}
+use Rattle.timer.specs.Counting.{scaledOf, countOf, stepOf, quiet}
+use Rattle.timer.specs.Parts.{withPrescaler, withZds}
+use Rattle.timer.specs.Running.{clockedTimer, tinGoes, mark}
+use Rattle.timer.specs.Registers.{controlledOf, clearedOf, preloadedOf, resetOf as resetTimer}
 use Rattle.timer.specs.declared.Timer.{Timer}
 use Rattle.timer.specs.declared.Counted.{Counted}
 use Rattle.clocks.specs.Numbers.{Rising, openings-rise}
 use Rattle.clocks.specs.Spans.{mark-append}
-use Rattle.device.specs.Clocking.{tinOf, clockOf, after, openings}
+use Rattle.gate.specs.Clocking.{clockedGate}
+use Rattle.gate.specs.Fresh.{resetGate}
+use Rattle.gate.specs.Pins.{tinEvent}
+use Rattle.gate.specs.Registers.{writeTcr, writePreload, writeTsr}
+use Rattle.gate.specs.declared.Gate.{Gate}
+use Rattle.gate.specs.declared.Gated.{Gated}
+use Rattle.device.specs.Clocking.{clockedDevice, after, openings}
 use Rattle.device.specs.Fresh.{resetOf}
-use Rattle.device.specs.Pins.{tinEvent, pinOf}
-use Rattle.device.specs.Registers.{readA, readB, readOf, writeTcr, writePreload, writeTsr, writeOf}
+use Rattle.device.specs.Pins.{pinOf}
+use Rattle.device.specs.Registers.{readOf, writeOf}
 use Rattle.device.specs.ManyClocks.{opens}
 use Rattle.device.specs.Events.{Made, silently, joined, effect, made}
 use Rattle.device.specs.declared.Device.{Device}
-use Rattle.device.specs.declared.Stepped.{Stepped}
-use Rattle.laws.specs.Reads.{any-read}
 use Rattle.survey.specs.Needed.{event-clocks, clocks-passed}
 use Rattle.promises.specs.Prefixes.{prefix}
-use Rattle.laws.specs.Touching.{any-write, any-pin}
+use Rattle.laws.specs.Touching.{write-gate, read-gate, pin-gate, any-write, any-gate-pin}
 use Rattle.promises.specs.Moments.{single, singly, lowersToZero, moments}
 
 -- t is left as c, and opened exactly when that lowered the counter from 1 to 0
-abbrev Says : Timer → Counted → Type 0
-Says t c = c .opened ≡ lowersToZero t (c .timer)
+abbrev OpensRightly : Timer → Counted → Type 0
+OpensRightly t c = c .opened ≡ lowersToZero t (c .timer)
 
 -- a counter that is kept is not lowered
 both-never : (b : Bool) (n : ℕ) → false ≡ (b && eqb n 1 && eqb n 0)
@@ -47,75 +53,74 @@ both-never true (suc zero) = refl
 both-never true (suc (suc n)) = rw (ne-eqb (suc (suc n)) 1 (λ o. omega arith))
 both-never false n = refl
 
-kept : (t : Timer) → Says t (quiet t)
-kept t = both-never (not (t .due)) (t .count .0)
+kept : (t : Timer) → OpensRightly t (quiet t)
+kept t = both-never (not (t .phase .due)) (t .count .0)
 
 -- A count opens exactly when no load is due and it lowers the counter from 1 to 0; loading 0 is none, even over a kept 1.
-pub count-opens : (t : Timer) → Says t (countOf t)
+pub count-opens : (t : Timer) → OpensRightly t (countOf t)
 unfolding countOf
 count-opens t =
-    branch (Says t) (t .due) _ _ (λ e. rw e)
+    branch (OpensRightly t) (t .phase .due) _ _ (λ e. rw e)
     (λ no.
-    branch (Says t) (eqb (t .count .0) 0) _ _ (λ e.
+    branch (OpensRightly t) (eqb (t .count .0) 0) _ _ (λ e.
     let z : eqb (t .count .0) 1 ≡ false = ne-eqb (t .count .0) 1 (λ o. omega (arith, eqb-true (t .count .0) 0 e)) in
     rw (no, z))
-    (λ _. branch (Says t) (eqb (t .count .0) 1) _ _ (λ e. rw (no, e)) (λ e. rw (no, e))))
+    (λ _. branch (OpensRightly t) (eqb (t .count .0) 1) _ _ (λ e. rw (no, e)) (λ e. rw (no, e))))
 
-step-opens : (t : Timer) → Says t (stepOf t)
+step-opens : (t : Timer) → OpensRightly t (stepOf t)
 unfolding stepOf
 step-opens t =
-    let u = withPrescaler t (scaledOf (t .prescaler) .prescaler) in
-    branch (Says t) (scaledOf (t .prescaler) .counts) (countOf u) (quiet u) (λ _. count-opens u) (λ _. kept u)
+    let u = withPrescaler t (scaledOf (t .phase .prescaler) .prescaler) in
+    branch (OpensRightly t) (scaledOf (t .phase .prescaler) .counts) (countOf u) (quiet u) (λ _. count-opens u) (λ _. kept u)
 
 -- So does a clock, and a change of TIN's level.
-pub clock-opens : (tin : Bool) (t : Timer) → Says t (timerClock tin t)
-unfolding timerClock
-clock-opens tin t = branch (Says t) (clockedOf (t .tcr) tin) _ _ (λ _. step-opens t) (λ _. kept t)
+pub clock-opens : (tin : Bool) (t : Timer) → OpensRightly t (clockedTimer tin t)
+unfolding clockedTimer
+clock-opens tin t = branch (OpensRightly t) (clockSteps (t .tcr) tin) _ _ (λ _. step-opens t) (λ _. kept t)
 
-pub tin-opens : (t : Timer) (old new : Bool) → Says t (tinGoes t old new)
+pub tin-opens : (t : Timer) (old new : Bool) → OpensRightly t (tinGoes t old new)
 unfolding tinGoes
 tin-opens t old new =
-    branch (Says t) (not (runsOf (t .tcr) new)) _ _ (λ _. kept t)
-    (λ _. branch (Says t) (old || not new) _ _ (λ _. kept t)
-    (λ _. branch (Says t) (eqb (sourceOf (t .tcr)) 2) _ _ (λ _. step-opens t)
-    (λ _. branch (Says t) (eqb (sourceOf (t .tcr)) 3) _ _ (λ _. count-opens t) (λ _. kept t))))
+    branch (OpensRightly t) (not (runsOf (t .tcr) new)) _ _ (λ _. kept t)
+    (λ _. branch (OpensRightly t) (old || not new) _ _ (λ _. kept t)
+    (λ _. branch (OpensRightly t) (eqb (sourceOf (t .tcr)) 2) _ _ (λ _. step-opens t)
+    (λ _. branch (OpensRightly t) (eqb (sourceOf (t .tcr)) 3) _ _ (λ _. count-opens t) (λ _. kept t))))
 
 -- an event that keeps the counter opens nothing
-write-keeps : (d : Device) (r v : ℕ) → false ≡ lowersToZero (d .timer) (writeOf d r v .timer)
+write-keeps : (d : Device) (r v : ℕ) → false ≡ lowersToZero (d .gate .timer) (writeOf d r v .gate .timer)
 unfolding writeTcr writePreload writeTsr controlledOf preloadedOf clearedOf
 write-keeps d r v =
-    let same = kept (d .timer) in
-    any-write (λ (x : Device). false ≡ lowersToZero (d .timer) (x .timer)) d r v
-    (λ x _ p q. rw p same)
-    (λ _. branch (λ (x : Timer). false ≡ lowersToZero (d .timer) x) (runsOf (bitAnd v 0xf7) (tinOf d)) _ _ (λ _. same) (λ _. same))
+    let t = d .gate .timer in
+    let same = kept t in
+    rw (write-gate d r v)
+    (any-write (λ (x : Gate). false ≡ lowersToZero t (x .timer)) (d .gate) r v
+    (λ x a. rw (a .timer) same)
+    (λ _. branch (λ (x : Timer). false ≡ lowersToZero t x) (runsOf (bitAnd v tcrBits) (tinLevel (d .gate .c))) _ _ (λ _. same) (λ _. same))
     (λ _. same)
     (λ _ _. same)
-    (λ _. branch (λ (x : Timer). false ≡ lowersToZero (d .timer) x) (bitOf v 0) (withZds (d .timer) false) (d .timer) (λ _. same) (λ _. same))
+    (λ _. branch (λ (x : Timer). false ≡ lowersToZero t x) (bitOf v 0) (withZds t false) t (λ _. same) (λ _. same)))
 
-read-keeps : (d : Device) (r : ℕ) → false ≡ lowersToZero (d .timer) (readOf d r .device .timer)
-unfolding readA readB
-read-keeps d r =
-    let same = kept (d .timer) in
-    any-read (λ (x : Device). false ≡ lowersToZero (d .timer) (x .timer)) d r same (λ _. same) (λ _. same)
+read-keeps : (d : Device) (r : ℕ) → false ≡ lowersToZero (d .gate .timer) (readOf d r .device .gate .timer)
+read-keeps d r = rw (read-gate d r) (kept (d .gate .timer))
 
-pin-opens : (d : Device) (n : ℕ) (level : Bool) → pinOf d n level .opened ≡ lowersToZero (d .timer) (pinOf d n level .device .timer)
+pin-opens : (d : Device) (n : ℕ) (level : Bool) → pinOf d n level .opened ≡ lowersToZero (d .gate .timer) (pinOf d n level .device .gate .timer)
 unfolding tinEvent
 pin-opens d n level =
-    any-pin (λ (s : Stepped). s .opened ≡ lowersToZero (d .timer) (s .device .timer)) d n level
-    (λ x p q o. rw (p, o) (kept (d .timer)))
-    (λ _. tin-opens (d .timer) (tinOf d) level)
+    let P : Gated → Type 0 = λ x. x .opened ≡ lowersToZero (d .gate .timer) (x .gate .timer) in
+    subst P (sym (pin-gate d n level))
+    (any-gate-pin P (d .gate) n level (λ x a. rw (a .timer) (kept (d .gate .timer))) (λ _. tin-opens (d .gate .timer) (tinLevel (d .gate .c)) level))
 
 -- n single clocks are n clocks
 one-and-more : (n : ℕ) (d : Device) (k : ℕ) → joined (effect d k (Clocks 1)) (effect (after 1 d) (k + 1) (Clocks n)) ≡ effect d k (Clocks (suc n))
 unfolding effect after openings
 one-and-more n d k =
-    let o = mark-append (clockOf d .opened) (suc k) [] (openings n (k + 1) (clockOf d .device)) in
+    let o = mark-append (clockedDevice d .opened) (suc k) [] (openings n (k + 1) (clockedDevice d .device)) in
     let p : k + 1 ≡ suc k = add-one k in
     let q : k + 1 + n ≡ k + suc n = omega arith in
     λ i. record {
-      device = after n (clockOf d .device);
+      device = after n (clockedDevice d .device);
       answers = [];
-      openings = (o ∙ ap (λ (x : ℕ). mark (clockOf d .opened) (suc k) (openings n x (clockOf d .device))) p) i;
+      openings = (o ∙ ap (λ (x : ℕ). mark (clockedDevice d .opened) (suc k) (openings n x (clockedDevice d .device))) p) i;
       clocks = q i;
     }
 
@@ -148,19 +153,19 @@ single-clocks (e ∷ es) d k =
 
 -- the moments of n single clocks
 clocks-moments : (n : ℕ) (d : Device) (k : ℕ) → moments d k (replicate n (Clocks 1)) ≡ openings n k d
-unfolding moments effect after openings clockOf
+unfolding moments effect after openings clockedDevice clockedGate
 clocks-moments zero d k = refl
-clocks-moments (suc n) d k = rw (clocks-moments n (clockOf d .device) (k + 1), ← (clock-opens (tinOf d) (d .timer)), add-one)
+clocks-moments (suc n) d k = rw (clocks-moments n (clockedDevice d .device) (k + 1), ← (clock-opens (tinLevel (d .gate .c)) (d .gate .timer)), add-one)
 
 single-moments : (e : Event) (d : Device) (k : ℕ) → moments d k (single e) ≡ effect d k e .openings
-unfolding moments effect resetOf resetTimer
+unfolding moments effect resetOf resetGate resetTimer
 single-moments (Write r v) d k = rw (← (write-keeps d r v))
 single-moments (Read r) d k = rw (← (read-keeps d r))
-single-moments PortAcknowledge d k = rw (← (kept (d .timer)))
-single-moments TimerAcknowledge d k = rw (← (kept (d .timer)))
+single-moments PortAcknowledge d k = rw (← (kept (d .gate .timer)))
+single-moments TimerAcknowledge d k = rw (← (kept (d .gate .timer)))
 single-moments (Pin n level) d k = rw (← (pin-opens d n level))
 single-moments (Clocks n) d k = clocks-moments n d k
-single-moments Reset d k = rw (← (kept (d .timer)))
+single-moments Reset d k = rw (← (kept (d .gate .timer)))
 
 moments-append : (xs ys : List Event) (d : Device) (k : ℕ) → moments d k (xs ++ ys) ≡ moments d k xs ++ moments (made d k xs .device) (made d k xs .clocks) ys
 unfolding moments made
@@ -198,7 +203,7 @@ moments-ordered [] d k = tt
 moments-ordered (e ∷ es) d k =
     let c = effect d k e .clocks in
     let f = effect d k e .device in
-    mark-ordered (lowersToZero (d .timer) (f .timer)) k c (made f c es .clocks) (moments f c es)
+    mark-ordered (lowersToZero (d .gate .timer) (f .gate .timer)) k c (made f c es .clocks) (moments f c es)
     (omega (arith, event-clocks d k e)) (omega (arith, clocks-passed f c es)) (moments-ordered es f c)
 
 -- They stand in order, and none is past the clocks that have passed.
@@ -208,4 +213,4 @@ in-order es d k = rw (openings-are-moments es d k, ← (single-clocks es d k)) (
 -- Within a clocks event they rise: no clock opens twice.
 pub clocks-rise : (n : ℕ) (d : Device) (k : ℕ) → Rising k (k + n) (effect d k (Clocks n) .openings)
 unfolding effect
-clocks-rise n d k = rw (opens n k d) (openings-rise (tinOf d) n k (d .timer))
+clocks-rise n d k = rw (opens n k d) (openings-rise (tinLevel (d .gate .c)) n k (d .gate .timer))

@@ -10,7 +10,12 @@ use Rattle.device.specs.declared.Device.{Device}
 
 joined-assoc : (f g h : Made) → joined f (joined g h) ≡ joined (joined f g) h
 joined-assoc f g h =
-    λ i. record { device = h .device; answers = sym (append-assoc (f .answers) (g .answers) (h .answers)) i; openings = sym (append-assoc (f .openings) (g .openings) (h .openings)) i; clocks = h .clocks }
+    λ i. record {
+      device = h .device;
+      answers = sym (append-assoc (f .answers) (g .answers) (h .answers)) i;
+      openings = sym (append-assoc (f .openings) (g .openings) (h .openings)) i;
+      clocks = h .clocks;
+    }
 
 -- xs and then ys: what xs make, and then what ys make of the device and the clocks that xs leave
 pub prefix : (xs ys : List Event) (d : Device) (k : ℕ) → made d k (xs ++ ys) ≡ joined (made d k xs) (made (made d k xs .device) (made d k xs .clocks) ys)

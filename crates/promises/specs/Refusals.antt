@@ -55,11 +55,11 @@ module _ (s : List ℕ) (d : Device) (answers openings : List ℕ) where
       → P (acceptance d answers openings (made d 0 es)))
       → P call
   unfolding playOf
-  tests P invalid unread bytes row taken =
+  tests P invalid as-read bytes row taken =
       branch P (validOf d) _ _ (λ v. listed v (parsed s) refl) invalid
     where
       listed : validOf d ≡ true → (q : Parsed) → parsed s ≡ q → P (settle d answers openings q)
-      listed v (refused r p) e = unread r p v e
+      listed v (refused r p) e = as-read r p v e
       listed v (events es) e =
           let n = answers-needed d 0 es in
           branch P (ltb (length answers) (length (made d 0 es .answers))) _ _
@@ -71,9 +71,9 @@ module _ (s : List ℕ) (d : Device) (answers openings : List ℕ) where
           (λ u. taken es v e (omega arith) (ltb-false _ _ u)))
 
   -- a number of 1 to 5 is given exactly when the reader gives it, of a device that is not refused
-  unread : (r p : ℕ) → 1 ≤ r → r ≤ 5 → Gives r p ↔ ((validOf d ≡ true) × (parsed s ≡ refused r p))
+  as-read : (r p : ℕ) → 1 ≤ r → r ≤ 5 → Gives r p ↔ ((validOf d ≡ true) × (parsed s ≡ refused r p))
   unfolding playOf
-  unread r p low high = (
+  as-read r p low high = (
     tests (Tells r p _)
         (λ v g. absurd (omega (arith, g .0)))
         (λ r′ p′ v e g. (v, rw (← (g .0), ← (g .1)) e))
@@ -86,7 +86,7 @@ module _ (s : List ℕ) (d : Device) (answers openings : List ℕ) where
   -- the reader's row in place of what it answers
   by-row : (r p : ℕ) (row : Type 0) → 1 ≤ r → r ≤ 5 → (parsed s ≡ refused r p) ↔ row → Gives r p ↔ ((validOf d ≡ true) × row)
   by-row r p row low high when =
-      let u = unread r p low high in
+      let u = as-read r p low high in
       ((λ g. (u .0 g .0, when .0 (u .0 g .1))), (λ h. u .1 (h .0, when .1 (h .1))))
 
   module _ (p : ℕ) where

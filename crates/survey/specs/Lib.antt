@@ -1,4 +1,4 @@
 pub mod Needed
-pub mod Gate
+pub mod Watching
 pub mod Survey
 pub mod Following

@@ -12,9 +12,7 @@ use Rattle.event.specs.declared.Event.{Event}
 use Rattle.event.specs.declared.Event.the-variants.{Write, Read, PortAcknowledge, TimerAcknowledge, Pin, Clocks, Reset}
 use Rattle.wire.specs.Needs.{answersIn, clocksIn, needsOf}
 use Rattle.timer.specs.Running.{mark}
-use Rattle.clocks.specs.Numbers.{at-most}
-use Rattle.device.specs.Clocking.{tinOf}
-use Rattle.device.specs.ManyClocks.{opens}
+use Rattle.device.specs.ManyClocks.{at-most}
 use Rattle.device.specs.Events.{answerBytes, effect, made}
 use Rattle.device.specs.Interrupts.{portAcknowledge, timerAcknowledge}
 use Rattle.device.specs.Pins.{pinOf}
@@ -73,5 +71,5 @@ event-openings d k (Read r) = omega arith
 event-openings d k PortAcknowledge = omega arith
 event-openings d k TimerAcknowledge = omega arith
 event-openings d k (Pin n l) = omega (arith, one (pinOf d n l .opened) k)
-event-openings d k (Clocks n) = rw (opens n k d) (omega (arith, at-most (tinOf d) n k (d .timer)))
+event-openings d k (Clocks n) = omega (arith, at-most n k d)
 event-openings d k Reset = omega arith

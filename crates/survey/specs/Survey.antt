@@ -6,13 +6,13 @@ use Rattle.event.specs.declared.Event.the-variants.{Write, Read, PortAcknowledg
 use Rattle.wire.specs.List.{Parsed, events, refused}
 use Rattle.wire.specs.Next.{mostBits, mostClocks}
 use Rattle.wire.specs.Needs.{clocksIn}
-use Rattle.wire.specs.declared.next.Next.{Next}
-use Rattle.wire.specs.declared.next.Next.the-variants.{Play, End, Refused}
 use Rattle.device.specs.Events.{Made, made}
 use Rattle.device.specs.declared.Device.{Device}
-use Rattle.survey.specs.Gate.{gateOf, writtenGate, levelledGate, clockedGate, resetGate}
-use Rattle.survey.specs.declared.gate.Gate.{Gate}
-use Rattle.survey.specs.declared.gate.Watched.{Watched}
+use Rattle.gate.specs.Fresh.{resetGate}
+use Rattle.gate.specs.Registers.{gateWritten}
+use Rattle.gate.specs.declared.Gate.{Gate}
+use Rattle.survey.specs.Watching.{watchedPin, watchedClocks}
+use Rattle.survey.specs.declared.watching.Watched.{Watched}
 use Rattle.survey.specs.declared.surveying.Room.{Room}
 use Rattle.survey.specs.declared.surveying.Pass.{Pass}
 use Rattle.survey.specs.declared.surveying.Surveyed.{Surveyed}
@@ -24,7 +24,7 @@ passAt g a o = record { gate = g; room = record { answers = a; openings = o } }
 
 -- before the first event
 abbrev pub startPass : Device → Pass
-startPass d = passAt (gateOf d) 0 0
+startPass d = passAt (d .gate) 0 0
 
 -- two answer bytes more (01: 'each read and each acknowledge appends two answer bytes')
 abbrev pub answeredPass : Pass → Pass
@@ -40,25 +40,13 @@ watchedPass v w = passAt (w .gate) (v .room .answers) (v .room .openings + w .op
 
 -- one event
 abbrev pub followedOf : Pass → Event → Pass
-followedOf v (Write r x) = withGate v (writtenGate (v .gate) r x)
+followedOf v (Write r x) = withGate v (gateWritten (v .gate) r x)
 followedOf v (Read r) = answeredPass v
 followedOf v PortAcknowledge = answeredPass v
 followedOf v TimerAcknowledge = answeredPass v
-followedOf v (Pin n level) = watchedPass v (levelledGate (v .gate) n level)
-followedOf v (Clocks n) = watchedPass v (clockedGate (v .gate) n)
+followedOf v (Pin n level) = watchedPass v (watchedPin (v .gate) n level)
+followedOf v (Clocks n) = watchedPass v (watchedClocks (v .gate) n)
 followedOf v Reset = withGate v (resetGate (v .gate))
-
--- what was read: one event, if it is one
-abbrev pub followedNext : Pass → Next → Pass
-followedNext v (Play e p) = followedOf v e
-followedNext v End = v
-followedNext v (Refused r p) = v
-
--- how a pass that came so far ends where no event stands
-abbrev pub endedOf : Pass → Next → Surveyed
-endedOf v (Play e p) = surveyed.Whole (v .room)
-endedOf v End = surveyed.Whole (v .room)
-endedOf v (Refused r p) = surveyed.Refused r p
 
 -- the room that what was made needs
 abbrev pub roomOf : Made → Room
@@ -75,7 +63,5 @@ pub record Fits (v : Pass) (bits : ℕ) : Type 0 where
   pub openings : v .room .openings ≤ mostClocks * bits
 
 -- what may be followed: at most 65,536 clocks, after what a list can have counted
-abbrev pub Followable : Pass → Next → Type 0
-Followable v (Play e p) = Fits v mostBits × (clocksIn e ≤ mostClocks)
-Followable v End = Unit {0}
-Followable v (Refused r p) = Unit {0}
+abbrev pub Followable : Pass → Event → Type 0
+Followable v e = Fits v mostBits × (clocksIn e ≤ mostClocks)

@@ -1,14 +1,16 @@
 // A first pass over a list, which writes nothing: its refusal, or the room that playing it needs (01, 'The event list').
-use crate::gate::Gate;
-use crate::gate::Watched;
+use crate::watching::Watched;
+use crate::watching::watch_clocks;
+use crate::watching::watch_pin;
 use device::Device;
 use event::Event;
+use gate::Gate;
 use wire::Next;
 ghost use mathlib.Core.Path.{_≡_};
 ghost use Prim.Native.Nat.{_*_, _≤_};
 ghost use Rattle.wire.specs.List.{parsed};
 ghost use Rattle.wire.specs.Next.{mostBits, mostClocks};
-ghost use Rattle.survey.specs.Survey.{startPass, answeredPass, withGate, watchedPass, Followable, followedNext, endedOf, surveyedOf};
+ghost use Rattle.survey.specs.Survey.{startPass, answeredPass, withGate, watchedPass, Followable, followedOf, surveyedOf};
 
 // The room that a list needs: answer bytes, and entries of the row.
 pub struct Room {
@@ -17,9 +19,9 @@ pub struct Room {
 }
 
 // How far a pass has come.
-pub struct Pass {
-    pub gate: Gate,
-    pub room: Room,
+pub(crate) struct Pass {
+    gate: Gate,
+    room: Room,
 }
 
 // What a list comes to.
@@ -35,8 +37,9 @@ impl Pass {
     fn start(device: Device) -> Pass
         ensures { λ r. ⌜ r ≡ startPass device ⌝ }
     {
+        let gate = device.gate;
         Pass {
-            gate: Gate::of(device),
+            gate: gate,
             room: Room {
                 answers: 0,
                 openings: 0,
@@ -74,35 +77,20 @@ impl Pass {
         self
     }
 
-    // The event that was read, if one was.
-    fn followed(self, next: Next) -> Pass
-        requires { ⌜ Followable self next ⌝ }
-        ensures { λ r. ⌜ r ≡ followedNext self next ⌝ }
+    // One event.
+    fn followed(self, event: Event) -> Pass
+        requires { ⌜ Followable self event ⌝ }
+        ensures { λ r. ⌜ r ≡ followedOf self event ⌝ }
     {
-        let Next::Play(event, _) = next else {
-            return self;
-        };
         let gate = self.gate;
         match event {
-            Event::Write(register, value) => self.with_gate(gate.written(register, value)),
+            Event::Write(register, value) => self.with_gate(gate.write(register, value)),
             Event::Read(_) => self.answered(),
             Event::PortAcknowledge => self.answered(),
             Event::TimerAcknowledge => self.answered(),
-            Event::Pin(pin, level) => self.watched(gate.levelled(pin, level)),
-            Event::Clocks(n) => self.watched(gate.clocked(n)),
+            Event::Pin(pin, level) => self.watched(watch_pin(gate, pin, level)),
+            Event::Clocks(n) => self.watched(watch_clocks(gate, n)),
             Event::Reset => self.with_gate(gate.reset()),
-        }
-    }
-
-    // How a pass ends where no event stands.
-    fn ended(self, next: Next) -> Surveyed
-        ensures { λ r. ⌜ r ≡ endedOf self next ⌝ }
-    {
-        let room = self.room;
-        match next {
-            Next::Refused(number, place) => Surveyed::Refused(number, place),
-            Next::End => Surveyed::Whole(room),
-            Next::Play(_, _) => Surveyed::Whole(room),
         }
     }
 }
@@ -115,10 +103,18 @@ pub fn survey(list: &[u8], device: Device) -> Surveyed
     let mut at = 0;
     loop {
         let next = wire::next_event(list, at);
-        let Next::Play(_, after) = next else {
-            return so_far.ended(next);
-        };
-        so_far = so_far.followed(next);
-        at = after;
+        match next {
+            Next::Play(event, after) => {
+                so_far = so_far.followed(event);
+                at = after;
+            }
+            Next::End => {
+                let room = so_far.room;
+                return Surveyed::Whole(room);
+            }
+            Next::Refused(number, place) => {
+                return Surveyed::Refused(number, place);
+            }
+        }
     }
 }

@@ -8,7 +8,8 @@ use lib.Dec.{ltb}
 use borrow.Author.Tests.{ltb-true, ltb-false, lt-ltb, le-ltb}
 use Rattle.bits.specs.Choice.{branch}
 use Rattle.wire.specs.Field.{bitsIn, bitAt, fieldAt, field-lt, field-zero-bits, bits-zero-field, field-set-bit, bit-set-field}
-use Rattle.wire.specs.Next.{mostBytes, lastPin, mostClocks, kindBits, registerBits, valueBits, clocksBits, kindAt, pinAt, sizeOf, bytesTo, fillAt, closeAt, pinOrRefusal, eventAt, nextAt, bitsOf, too-long, cut-short, all-there}
+use Rattle.wire.specs.Next.{mostBytes, lastPin, mostClocks, kindBits, registerBits, valueBits, clocksBits, kindAt, pinAt, sizeOf}
+use Rattle.wire.specs.Next.{bytesTo, fillAt, closeAt, pinOrRefusal, eventAt, nextAt, bitsOf, too-long, cut-short, all-there}
 use Rattle.wire.specs.Needs.{clocksIn}
 use Rattle.wire.specs.WellFormed.{wellFormed, three-bits, few-clocks, paced}
 use Rattle.event.specs.declared.Event.{Event}

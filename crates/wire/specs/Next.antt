@@ -9,6 +9,7 @@ use lib.Dec.{ltb, eqb}
 use borrow.Author.Tests.{lt-ltb, le-ltb}
 use Rattle.bits.specs.Choice.{if_then_else_}
 use Rattle.wire.specs.Field.{bitsIn, fieldAt}
+use Rattle.event.specs.Map.{H4}
 use Rattle.event.specs.declared.Event.{Event}
 use Rattle.event.specs.declared.Event.the-variants.{Write, Read, PortAcknowledge, TimerAcknowledge, Pin, Clocks, Reset}
 use Rattle.wire.specs.declared.next.Next.{Next}
@@ -23,7 +24,7 @@ mostBits = mostBytes * 8
 
 -- 'Pins 0-7 are PA, 8-15 PB, 16-23 PC, 24-27 H1-H4'
 abbrev pub lastPin : ℕ
-lastPin = 27
+lastPin = H4
 
 -- 'Each event is a 3-bit kind and its fields'
 abbrev pub kindBits : ℕ

@@ -1,6 +1,7 @@
 // What stands at a bit of a list: an event, the end or a refusal (01, 'The event list' and its table of refusals).
 use crate::field::field;
 use event::Event;
+use event::map;
 ghost use mathlib.Core.Path.{_≡_};
 ghost use Prim.Native.Nat.{_+_, _≤_, _<_, _/_, _%_, _^_};
 ghost use lib.Dec.{eqb};
@@ -58,7 +59,7 @@ const VALUE_MASK: u32 = (1 << VALUE_BITS) - 1;
 const LEVEL_MASK: u32 = (1 << LEVEL_BITS) - 1;
 
 // The last pin, H4.
-const LAST_PIN: u8 = 27;
+const LAST_PIN: u8 = map::H4;
 
 // What stands at a bit of a list.
 pub enum Next {

@@ -50,17 +50,5 @@ pub answers-spec : {M : Type 1} → statement M
 answers-spec =
     tie.close
     (tie.spec
-    Inv-loop
-    μ-loop
-    loop-holds
-    returns
-    sub-if2
-    returns-2
-    shared-slice-read-answer
-    add-answer
-    shared-slice-read-answer-2
-    answer-requires
-    add-i
-    loop-less
-    loop-again
-    returns-3)
+    Inv-loop μ-loop loop-holds returns sub-if2 returns-2 shared-slice-read-answer add-answer shared-slice-read-answer-2 answer-requires add-i
+    loop-less loop-again returns-3)

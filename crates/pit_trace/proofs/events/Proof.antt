@@ -55,19 +55,5 @@ pub events-spec : {M : Type 1} → statement M
 events-spec =
     tie.close
     (tie.spec
-    Inv-loop
-    μ-loop
-    fresh-requires
-    loop-holds
-    next-event-requires
-    enum-known-next
-    returns
-    happened-requires
-    clocks-in-requires
-    cast-clocks
-    add-clocks
-    show-requires
-    add-number
-    loop-less
-    loop-again
-    returns-2)
+    Inv-loop μ-loop fresh-requires loop-holds next-event-requires enum-known-next returns happened-requires clocks-in-requires cast-clocks add-clocks
+    show-requires add-number loop-less loop-again returns-2)

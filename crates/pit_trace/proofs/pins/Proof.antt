@@ -37,17 +37,4 @@ returns : tie.Need-returns Inv-loop μ-loop
 returns c = search needs
 
 pub pins-spec : {M : Type 1} → statement M
-pins-spec =
-    tie.close
-    (tie.spec
-    Inv-loop
-    μ-loop
-    loop-holds
-    cast-level
-    level-requires
-    array-write-digits
-    add-i
-    loop-less
-    loop-again
-    level-digits-requires
-    returns)
+pins-spec = tie.close (tie.spec Inv-loop μ-loop loop-holds cast-level level-requires array-write-digits add-i loop-less loop-again level-digits-requires returns)

@@ -31,15 +31,4 @@ returns : tie.Need-returns Inv-loop μ-loop
 returns c = search needs
 
 pub registers-spec : {M : Type 1} → statement M
-registers-spec =
-    tie.close
-    (tie.spec
-    Inv-loop
-    μ-loop
-    loop-holds
-    read-requires
-    hex-requires
-    add-i
-    loop-less
-    loop-again
-    returns)
+registers-spec = tie.close (tie.spec Inv-loop μ-loop loop-holds read-requires hex-requires add-i loop-less loop-again returns)

@@ -38,17 +38,4 @@ returns-2 : tie.Need-returns-2 Inv-loop μ-loop
 returns-2 c = search needs
 
 pub openings-spec : {M : Type 1} → statement M
-openings-spec =
-    tie.close
-    (tie.spec
-    Inv-loop
-    μ-loop
-    loop-holds
-    returns
-    mul-opening
-    shared-slice-read-opening
-    opening-requires
-    add-i
-    loop-less
-    loop-again
-    returns-2)
+openings-spec = tie.close (tie.spec Inv-loop μ-loop loop-holds returns mul-opening shared-slice-read-opening opening-requires add-i loop-less loop-again returns-2)

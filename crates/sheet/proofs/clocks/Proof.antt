@@ -33,16 +33,4 @@ returns : tie.Need-returns Inv-loop μ-loop
 returns c = search needs
 
 pub clocks-spec : {M : Type 1} → statement M
-clocks-spec =
-    tie.close
-    (tie.spec
-    Inv-loop
-    μ-loop
-    mul-left
-    add-left
-    loop-holds
-    clock-requires
-    sub-left
-    loop-less
-    loop-again
-    returns)
+clocks-spec = tie.close (tie.spec Inv-loop μ-loop mul-left add-left loop-holds clock-requires sub-left loop-less loop-again returns)

@@ -31,15 +31,4 @@ returns : tie.Need-returns Inv-loop μ-loop
 returns c = search needs
 
 pub levels-spec : {M : Type 1} → statement M
-levels-spec =
-    tie.close
-    (tie.spec
-    Inv-loop
-    μ-loop
-    loop-holds
-    bit-requires
-    pin-requires
-    add-i
-    loop-less
-    loop-again
-    returns)
+levels-spec = tie.close (tie.spec Inv-loop μ-loop loop-holds bit-requires pin-requires add-i loop-less loop-again returns)

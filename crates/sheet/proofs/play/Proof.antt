@@ -74,25 +74,6 @@ pub play-spec : {M : Type 1} → statement M
 play-spec =
     tie.close
     (tie.spec
-    Inv-loop
-    μ-loop
-    fresh-requires
-    loop-holds
-    sub-if1
-    returns
-    shared-slice-read-step
-    add-number-of
-    shared-slice-read-number-of
-    add-number-of-2
-    shared-slice-read-number-of-2
-    number-of-requires
-    add-number-of-3
-    shared-slice-read-number-of-3
-    add-number-of-4
-    shared-slice-read-number-of-4
-    number-of-requires-2
-    step-requires
-    add-i
-    loop-less
-    loop-again
-    returns-2)
+    Inv-loop μ-loop fresh-requires loop-holds sub-if1 returns shared-slice-read-step add-number-of shared-slice-read-number-of add-number-of-2
+    shared-slice-read-number-of-2 number-of-requires add-number-of-3 shared-slice-read-number-of-3 add-number-of-4 shared-slice-read-number-of-4
+    number-of-requires-2 step-requires add-i loop-less loop-again returns-2)

@@ -30,15 +30,4 @@ returns : tie.Need-returns Inv-loop μ-loop
 returns c = search needs
 
 pub rises-spec : {M : Type 1} → statement M
-rises-spec =
-    tie.close
-    (tie.spec
-    Inv-loop
-    μ-loop
-    loop-holds
-    pin-requires
-    pin-requires-2
-    sub-left
-    loop-less
-    loop-again
-    returns)
+rises-spec = tie.close (tie.spec Inv-loop μ-loop loop-holds pin-requires pin-requires-2 sub-left loop-less loop-again returns)

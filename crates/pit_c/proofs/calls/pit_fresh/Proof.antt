@@ -9,15 +9,6 @@ returns : tie.Need-returns
 unfolding done freshCall
 returns c = (rw (ne-eqb _ _ (c .if1 .taken)), rw (ne-eqb _ _ (c .if1 .taken)))
 
-fresh-requires : tie.Need-fresh-requires
-fresh-requires c κs = search needs
-
-put-device-requires : tie.Need-put-device-requires
-put-device-requires c κs = c .before .before .if1 .left
-
-same-length : tie.Need-same-length
-same-length c = search needs
-
 returns-2 : tie.Need-returns-2
 unfolding done freshCall
 returns-2 c =
@@ -27,5 +18,4 @@ returns-2 c =
     (rw (eq-eqb _ _ (at-test .if1 .left)), rw (at-put-device .put-device .ensures, at-fresh .fresh .ensures, eq-eqb _ _ (at-test .if1 .left)))
 
 pub pit-fresh-spec : {M : Type 1} → statement M
-pit-fresh-spec =
-    tie.close (tie.spec returns fresh-requires put-device-requires same-length returns-2)
+pit-fresh-spec = tie.close (tie.spec returns (λ c κs. search needs) (λ c κs. search needs) (λ c. search needs) returns-2)

@@ -9,15 +9,9 @@ returns : tie.Need-returns
 unfolding levelsAnswer
 returns c = rw (ne-eqb _ _ (c .if1 .taken))
 
-device-of-requires : tie.Need-device-of-requires
-device-of-requires c κs = c .if1 .left
-
-levels-requires : tie.Need-levels-requires
-levels-requires c κs = search needs
-
 returns-2 : tie.Need-returns-2
 unfolding levelsAnswer
 returns-2 c = rw (c .levels .ensures, c .before .device-of .ensures, eq-eqb _ _ (c .before .before .if1 .left))
 
 pub pit-levels-spec : {M : Type 1} → statement M
-pit-levels-spec = tie.close (tie.spec returns device-of-requires levels-requires returns-2)
+pit-levels-spec = tie.close (tie.spec returns (λ c κs. search needs) (λ c κs. search needs) returns-2)

@@ -9,38 +9,16 @@ returns : tie.Need-returns
 unfolding readAnswer readCall
 returns c = (rw (ne-eqb _ _ (c .if1 .taken)), rw (ne-eqb _ _ (c .if1 .taken)))
 
-device-of-requires : tie.Need-device-of-requires
-device-of-requires c κs = c .before .if1 .left
-
-read-requires : tie.Need-read-requires
-read-requires c κs = search needs
-
-put-device-requires : tie.Need-put-device-requires
-put-device-requires c κs = c .before .before .before .before .before .if1 .left
-
-cast-result : tie.Need-cast-result
-cast-result c = search needs
-
-same-length : tie.Need-same-length
-same-length c = search needs
-
 returns-2 : tie.Need-returns-2
 unfolding readAnswer readCall
 returns-2 c =
     let at-put-device = c .before .before .before in
     let at-read = at-put-device .before .before .before in
     let at-device-of = at-read .before in
-    let at-test = at-device-of .before .before in
-    (rw (at-read .read .ensures, at-device-of .device-of .ensures, eq-eqb _ _ (at-test .if1 .left)), rw (at-put-device .put-device .ensures, at-read .read .ensures, at-device-of .device-of .ensures, eq-eqb _ _ (at-test .if1 .left)))
+    let at-test = at-device-of .before .before in (
+      rw (at-read .read .ensures, at-device-of .device-of .ensures, eq-eqb _ _ (at-test .if1 .left)),
+      rw (at-put-device .put-device .ensures, at-read .read .ensures, at-device-of .device-of .ensures, eq-eqb _ _ (at-test .if1 .left)),
+    )
 
 pub pit-read-spec : {M : Type 1} → statement M
-pit-read-spec =
-    tie.close
-    (tie.spec
-    returns
-    device-of-requires
-    read-requires
-    put-device-requires
-    cast-result
-    same-length
-    returns-2)
+pit-read-spec = tie.close (tie.spec returns (λ c κs. search needs) (λ c κs. search needs) (λ c κs. search needs) (λ c. search needs) (λ c. search needs) returns-2)

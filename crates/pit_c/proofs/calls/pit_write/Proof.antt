@@ -9,18 +9,6 @@ returns : tie.Need-returns
 unfolding done writeCall
 returns c = (rw (ne-eqb _ _ (c .if1 .taken)), rw (ne-eqb _ _ (c .if1 .taken)))
 
-device-of-requires : tie.Need-device-of-requires
-device-of-requires c κs = c .before .if1 .left
-
-write-requires : tie.Need-write-requires
-write-requires c κs = search needs
-
-put-device-requires : tie.Need-put-device-requires
-put-device-requires c κs = c .before .before .before .before .if1 .left
-
-same-length : tie.Need-same-length
-same-length c = search needs
-
 returns-2 : tie.Need-returns-2
 unfolding done writeCall
 returns-2 c =
@@ -31,6 +19,4 @@ returns-2 c =
     (rw (eq-eqb _ _ (at-test .if1 .left)), rw (at-put-device .put-device .ensures, at-write .write .ensures, at-device-of .device-of .ensures, eq-eqb _ _ (at-test .if1 .left)))
 
 pub pit-write-spec : {M : Type 1} → statement M
-pit-write-spec =
-    tie.close
-    (tie.spec returns device-of-requires write-requires put-device-requires same-length returns-2)
+pit-write-spec = tie.close (tie.spec returns (λ c κs. search needs) (λ c κs. search needs) (λ c κs. search needs) (λ c. search needs) returns-2)

@@ -8,14 +8,15 @@ use denote.Ref.{now}
 use Rattle.wire.specs.Field.{bitsIn}
 use Rattle.wire.specs.List.{parsed}
 use Rattle.wire.specs.Finds.{moves}
+use Rattle.survey.specs.Survey.{surveyedOf}
 use Rattle.survey.specs.Following.{goingOn, from-start}
 use Rattle.survey.specs.declared.surveying.Pass.{Pass}
-use Rattle.survey.proofs.FirstPass.{Come, allowed, further, finished}
+use Rattle.survey.proofs.FirstPass.{Underway, allowed, further, ended, refused}
 use Rattle.survey.proofs.surveying.survey.Statement.{statement}
 use Rattle.survey.proofs.surveying.survey.Tie as tie
 
 abbrev Inv-loop : tie.InvT-loop
-Inv-loop list so-far₀ at₀ so-far at = Come list so-far₀ so-far at
+Inv-loop list so-far₀ at₀ so-far at = Underway list so-far₀ so-far at
 
 abbrev μ-loop : tie.MeasureT-loop
 μ-loop list so-far₀ at₀ so-far at = bitsIn list - at
@@ -35,21 +36,6 @@ next-event-requires c κs = search needs
 
 enum-known-next : tie.Need-enum-known-next Inv-loop μ-loop
 enum-known-next c = search needs
-
-ended-requires : tie.Need-ended-requires Inv-loop μ-loop
-ended-requires c κs = search needs
-
-returns : tie.Need-returns Inv-loop μ-loop
-returns c =
-    let l = c .before .before .before .loop in
-    let start = c .before .before .before .before .start in
-    let a = c .before .before .before .before .before .before .args in
-    let s = now (a .list) in
-    let n = c .before .before .next-event in
-    c .ended .ensures
-    ∙ finished s (start .result) (l .so-far) (l .at) (l .inv) (n .result) (n .ensures) (c .before .match .keys2)
-    ∙ ap (λ (v : Pass). goingOn v (parsed s)) (start .ensures)
-    ∙ from-start (a .device) (parsed s)
 
 followed-requires : tie.Need-followed-requires Inv-loop μ-loop
 followed-requires c κs =
@@ -74,18 +60,35 @@ loop-again c =
     let f = c .followed in
     further s _ (l .so-far) (l .at) (l .inv) (v .0 .0) (v .0 .1 .0) (sym (c .before .before .before .before .next-event .ensures) ∙ v .1) (f .result) (f .ensures)
 
+-- what the whole list comes to from the start
+whole : (c : tie.After-start Inv-loop μ-loop)
+    → (let a = c .before .before .args in goingOn (c .start .result) (parsed (now (a .list))) ≡ surveyedOf (a .device) (parsed (now (a .list))))
+whole c =
+    let a = c .before .before .args in
+    ap (λ (v : Pass). goingOn v (parsed (now (a .list)))) (c .start .ensures) ∙ from-start (a .device) (parsed (now (a .list)))
+
+enum-told : tie.Need-enum-told Inv-loop μ-loop
+enum-told c = search needs
+
+returns : tie.Need-returns Inv-loop μ-loop
+returns c =
+    let l = c .before .before .before .before .loop in
+    ended _ _ (l .so-far) (l .at) (l .inv) (sym (c .before .before .before .next-event .ensures) ∙ c .before .enum-told .given .1)
+    ∙ whole (c .before .before .before .before .before)
+
+enum-known-next-2 : tie.Need-enum-known-next-2 Inv-loop μ-loop
+enum-known-next-2 c = search needs
+
+returns-2 : tie.Need-returns-2 Inv-loop μ-loop
+returns-2 c =
+    let l = c .before .before .before .before .loop in
+    let v = c .before .next2 .given in
+    refused _ _ (l .so-far) (l .at) (l .inv) (v .0 .0) (v .0 .1 .0) (sym (c .before .before .before .next-event .ensures) ∙ v .1)
+    ∙ whole (c .before .before .before .before .before)
+
 pub survey-spec : {M : Type 1} → statement M
 survey-spec =
     tie.close
     (tie.spec
-    Inv-loop
-    μ-loop
-    start-requires
-    loop-holds
-    next-event-requires
-    enum-known-next
-    ended-requires
-    returns
-    followed-requires
-    loop-less
-    loop-again)
+    Inv-loop μ-loop start-requires loop-holds next-event-requires enum-known-next followed-requires loop-less loop-again enum-told returns
+    enum-known-next-2 returns-2)

@@ -26,15 +26,6 @@ masked s at w bytes h e =
     ∙ ap (λ (x : ℕ). x / 2 ^ (24 - at % 8 - w) % 2 ^ w) e
     ∙ field-window s at w (omega arith)
 
-window-requires : tie.Need-window-requires
-window-requires c κs = search needs
-
-cast-mask : tie.Need-cast-mask
-cast-mask c = search needs
-
-shl-mask : tie.Need-shl-mask
-shl-mask c = search needs
-
 sub-mask : tie.Need-sub-mask
 sub-mask c = let a = c .before .before in rw (ones (a .args .width) (a .pre)) (pow-pos _)
 
@@ -44,12 +35,6 @@ sub-result c = rw (and-mask (c .before .before .args .at) 3) (omega arith)
 sub-result-2 : tie.Need-sub-result-2
 sub-result-2 c = rw (and-mask (c .before .before .args .at) 3) (omega arith)
 
-cast-result : tie.Need-cast-result
-cast-result c = search needs
-
-shr-result : tie.Need-shr-result
-shr-result c = search needs
-
 returns : tie.Need-returns
 returns c =
     let a = c .before .before .args in
@@ -57,15 +42,4 @@ returns c =
     (e, subst (λ (x : ℕ). x < 2 ^ (a .width)) (sym e) (field-lt (now (a .list)) (a .at) (a .width)))
 
 pub field-spec : {M : Type 1} → statement M
-field-spec =
-    tie.close
-    (tie.spec
-    window-requires
-    cast-mask
-    shl-mask
-    sub-mask
-    sub-result
-    sub-result-2
-    cast-result
-    shr-result
-    returns)
+field-spec = tie.close (tie.spec (λ c κs. search needs) (λ c. search needs) (λ c. search needs) sub-mask sub-result sub-result-2 (λ c. search needs) (λ c. search needs) returns)

@@ -5,24 +5,9 @@ use Rattle.wire.specs.Next.{closeAt}
 use Rattle.wire.proofs.next.close.Statement.{statement}
 use Rattle.wire.proofs.next.close.Tie as tie
 
-add-bytes : tie.Need-add-bytes
-add-bytes c = search needs
-
-mul-field : tie.Need-mul-field
-mul-field c = search needs
-
-sub-field : tie.Need-sub-field
-sub-field c = search needs
-
-field-requires : tie.Need-field-requires
-field-requires c κs = search needs
-
 returns : tie.Need-returns
 unfolding closeAt
 returns c = rw (← c .before .field .ensures .0, lt-ltb 0 _ (c .if1 .taken))
-
-mul-t8 : tie.Need-mul-t8
-mul-t8 c = search needs
 
 returns-2 : tie.Need-returns-2
 unfolding closeAt
@@ -33,6 +18,4 @@ unfolding closeAt
 returns-3 c = rw (← c .before .before .field .ensures .0, le-ltb 0 _ (c .before .if1 .left), le-ltb _ _ (c .if2 .left))
 
 pub close-spec : {M : Type 1} → statement M
-close-spec =
-    tie.close
-    (tie.spec add-bytes mul-field sub-field field-requires returns mul-t8 returns-2 returns-3)
+close-spec = tie.close (tie.spec (λ c. search needs) (λ c. search needs) (λ c. search needs) (λ c κs. search needs) returns (λ c. search needs) returns-2 returns-3)

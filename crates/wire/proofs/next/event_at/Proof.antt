@@ -16,30 +16,6 @@ past-three k n0 n1 n2 n3 = omega arith
 seven : (k : ℕ) → k < 8 → 4 ≤ k → (k ≡ 4 → ⊥) → (k ≡ 5 → ⊥) → (k ≡ 6 → ⊥) → k ≡ 7
 seven k below past n4 n5 n6 = omega arith
 
-register-or-pin-requires : tie.Need-register-or-pin-requires
-register-or-pin-requires c κs = search needs
-
-value-of-requires : tie.Need-value-of-requires
-value-of-requires c κs = search needs
-
-register-or-pin-requires-2 : tie.Need-register-or-pin-requires-2
-register-or-pin-requires-2 c κs = search needs
-
-pin-at-requires : tie.Need-pin-at-requires
-pin-at-requires c κs = search needs
-
-add-field : tie.Need-add-field
-add-field c = search needs
-
-field-requires : tie.Need-field-requires
-field-requires c κs = search needs
-
-add-t16 : tie.Need-add-t16
-add-t16 c = search needs
-
-close-requires : tie.Need-close-requires
-close-requires c κs = search needs
-
 returns : tie.Need-returns
 unfolding eventAt
 returns c =
@@ -88,19 +64,5 @@ pub event-at-spec : {M : Type 1} → statement M
 event-at-spec =
     tie.close
     (tie.spec
-    register-or-pin-requires
-    value-of-requires
-    register-or-pin-requires-2
-    pin-at-requires
-    add-field
-    field-requires
-    add-t16
-    close-requires
-    returns
-    returns-2
-    returns-3
-    returns-4
-    returns-5
-    returns-6
-    returns-7
-    returns-8)
+    (λ c κs. search needs) (λ c κs. search needs) (λ c κs. search needs) (λ c κs. search needs) (λ c. search needs) (λ c κs. search needs)
+    (λ c. search needs) (λ c κs. search needs) returns returns-2 returns-3 returns-4 returns-5 returns-6 returns-7 returns-8)

@@ -33,25 +33,10 @@ returns c = let a = c .before .before .args in sym (too-long (now (a .list)) (a 
 returns-2 : tie.Need-returns-2
 returns-2 c = let a = c .before .before .before .args in sym (cut-short (now (a .list)) (a .at) (omega arith) (omega arith))
 
-field-requires : tie.Need-field-requires
-field-requires c κs = search needs
-
-size-of-requires : tie.Need-size-of-requires
-size-of-requires c κs = search needs
-
-add-after : tie.Need-add-after
-add-after c = search needs
-
-mul-if3 : tie.Need-mul-if3
-mul-if3 c = search needs
-
 returns-3 : tie.Need-returns-3
 returns-3 c =
     let a = c .before .before .before .before .before .before .args in
     cut (now (a .list)) (a .at) _ _ (head-kind _ _ (c .before .before .field .ensures .0)) (c .before .size-of .ensures .0) (omega arith) (omega arith)
-
-event-at-requires : tie.Need-event-at-requires
-event-at-requires c κs = search needs
 
 returns-4 : tie.Need-returns-4
 returns-4 c =
@@ -63,12 +48,5 @@ pub next-event-spec : {M : Type 1} → statement M
 next-event-spec =
     tie.close
     (tie.spec
-    returns
-    returns-2
-    field-requires
-    size-of-requires
-    add-after
-    mul-if3
-    returns-3
-    event-at-requires
+    returns returns-2 (λ c κs. search needs) (λ c κs. search needs) (λ c. search needs) (λ c. search needs) returns-3 (λ c κs. search needs)
     returns-4)

@@ -7,18 +7,12 @@ use Rattle.wire.specs.Head.{head-register, head-level}
 use Rattle.wire.proofs.next.pin_at.Statement.{statement}
 use Rattle.wire.proofs.next.pin_at.Tie as tie
 
-register-or-pin-requires : tie.Need-register-or-pin-requires
-register-or-pin-requires c κs = search needs
-
 returns : tie.Need-returns
 unfolding pinOrRefusal
 returns c =
     let k = c .before .before .before in
     let pin = c .before .register-or-pin .ensures ∙ head-register _ _ (k .pre) in
     simp (sym pin, lt-ltb _ _ (c .if1 .taken))
-
-level-of-requires : tie.Need-level-of-requires
-level-of-requires c κs = search needs
 
 returns-2 : tie.Need-returns-2
 unfolding pinOrRefusal
@@ -29,4 +23,4 @@ returns-2 c =
     simp (sym pin, le-ltb _ _ (c .before .if1 .left), c .level-of .ensures, level)
 
 pub pin-at-spec : {M : Type 1} → statement M
-pin-at-spec = tie.close (tie.spec register-or-pin-requires returns level-of-requires returns-2)
+pin-at-spec = tie.close (tie.spec (λ c κs. search needs) returns (λ c κs. search needs) returns-2)

@@ -20,24 +20,6 @@ kind-alone (suc (suc (suc (suc (suc (suc zero)))))) write read pin clocks = refl
 kind-alone (suc (suc (suc (suc (suc (suc (suc zero))))))) write read pin clocks = refl
 kind-alone (suc (suc (suc (suc (suc (suc (suc (suc k)))))))) write read pin clocks = refl
 
-add-result : tie.Need-add-result
-add-result c = search needs
-
-add-result-2 : tie.Need-add-result-2
-add-result-2 c = search needs
-
-add-result-3 : tie.Need-add-result-3
-add-result-3 c = search needs
-
-add-result-4 : tie.Need-add-result-4
-add-result-4 c = search needs
-
-add-result-5 : tie.Need-add-result-5
-add-result-5 c = search needs
-
-add-result-6 : tie.Need-add-result-6
-add-result-6 c = search needs
-
 returns : tie.Need-returns
 unfolding sizeOf
 returns c = (sym (ap sizeOf (c .match .keys1)), omega arith)
@@ -63,14 +45,5 @@ pub size-of-spec : {M : Type 1} → statement M
 size-of-spec =
     tie.close
     (tie.spec
-    add-result
-    add-result-2
-    add-result-3
-    add-result-4
-    add-result-5
-    add-result-6
-    returns
-    returns-2
-    returns-3
-    returns-4
-    returns-5)
+    (λ c. search needs) (λ c. search needs) (λ c. search needs) (λ c. search needs) (λ c. search needs) (λ c. search needs) returns returns-2
+    returns-3 returns-4 returns-5)

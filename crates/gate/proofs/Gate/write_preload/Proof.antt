@@ -1,0 +1,12 @@
+use mathlib.Core.Path.{sym}
+use Rattle.gate.specs.Registers.{writePreload}
+use borrow.Author.Needs.{needs}
+use Rattle.gate.proofs.Gate.write_preload.Statement.{statement}
+use Rattle.gate.proofs.Gate.write_preload.Tie as tie
+
+returns : tie.Need-returns
+unfolding writePreload
+returns c = simp (sym (c .preloaded .ensures))
+
+pub write-preload-spec : {M : Type 1} → statement M
+write-preload-spec = tie.close (tie.spec (λ c κs. search needs) returns)

@@ -1,0 +1,41 @@
+// Clocks of the gate (01, 'Timer').
+use crate::Gate;
+use crate::GateRun;
+use crate::Gated;
+use timer::ClockNumber;
+ghost use mathlib.Core.Path.{_≡_};
+ghost use mathlib.Core.List.{map};
+ghost use lib.Seq.{sets};
+ghost use Rattle.clocks.specs.Clocks.{clockNumber};
+ghost use Rattle.gate.specs.Clocking.{clockedGate, gateOpenings, gateRun};
+
+impl Gate {
+    // One clock.
+    pub fn clock(mut self) -> Gated
+        ensures { λ r. ⌜ r ≡ clockedGate self ⌝ }
+    {
+        let counted = self.timer.clocked(self.c.tin());
+        let timer = counted.timer;
+        self.timer = timer;
+        Gated {
+            gate: self,
+            opened: counted.opened,
+        }
+    }
+
+    // n clocks, after those that have passed, at once. The number of each that opens goes into the row from place `at` on, as far
+    // as the row has room.
+    pub fn clocks(mut self, n: u32, passed: ClockNumber, row: &mut [u32], at: usize) -> GateRun
+        ensures counted { λ r. ⌜ r ≡ gateRun n (passed .0) self ⌝ }
+        ensures numbered { λ r. ⌜ now (row .exit) ≡ sets (now (row .entry)) at (map clockNumber (gateOpenings n (passed .0) self)) ⌝ }
+    {
+        let timer = self.timer;
+        let run = clocks::clocks(timer, self.c.tin(), n, passed, row, at);
+        let next = run.timer;
+        self.timer = next;
+        GateRun {
+            gate: self,
+            used: run.used,
+        }
+    }
+}

@@ -1,0 +1,61 @@
+-- Events as far as they concern the gate: what they leave of it and when they open it depends on the gate alone (01, 'Timer').
+use Prim.Native.Nat.{ℕ}
+use mathlib.Core.Bool.{Bool}
+use mathlib.Core.List.{List, []}
+use mathlib.Core.Path.{_≡_, refl, ap}
+use Rattle.event.specs.declared.Event.{Event}
+use Rattle.event.specs.declared.Event.the-variants.{Write, Read, PortAcknowledge, TimerAcknowledge, Pin, Clocks, Reset}
+use Rattle.timer.specs.Running.{mark}
+use Rattle.gate.specs.Clocking.{gateAfter, gateOpenings}
+use Rattle.gate.specs.Fresh.{resetGate}
+use Rattle.gate.specs.Pins.{gatePinned}
+use Rattle.gate.specs.Registers.{gateWritten}
+use Rattle.gate.specs.declared.Gate.{Gate}
+use Rattle.gate.specs.declared.Gated.{Gated}
+use Rattle.device.specs.Fresh.{resetOf}
+use Rattle.device.specs.ManyClocks.{halves, opens}
+use Rattle.device.specs.Events.{effect}
+use Rattle.device.specs.declared.Device.{Device}
+use Rattle.laws.specs.Touching.{write-gate, read-gate, pin-gate}
+
+-- the gate after an event
+abbrev pub followed : Gate → Event → Gate
+followed g (Write r v) = gateWritten g r v
+followed g (Read r) = g
+followed g PortAcknowledge = g
+followed g TimerAcknowledge = g
+followed g (Pin n level) = gatePinned g n level .gate
+followed g (Clocks n) = gateAfter n g
+followed g Reset = resetGate g
+
+-- the numbers of its openings, k clocks having passed before
+abbrev pub opensBy : Gate → ℕ → Event → List ℕ
+opensBy g k (Write r v) = []
+opensBy g k (Read r) = []
+opensBy g k PortAcknowledge = []
+opensBy g k TimerAcknowledge = []
+opensBy g k (Pin n level) = mark (gatePinned g n level .opened) k []
+opensBy g k (Clocks n) = gateOpenings n k g
+opensBy g k Reset = []
+
+-- The gate of the part after an event is the gate after that event.
+pub gate-follows : (d : Device) (k : ℕ) (e : Event) → effect d k e .device .gate ≡ followed (d .gate) e
+unfolding effect resetOf
+gate-follows d k (Write r v) = write-gate d r v
+gate-follows d k (Read r) = read-gate d r
+gate-follows d k PortAcknowledge = refl
+gate-follows d k TimerAcknowledge = refl
+gate-follows d k (Pin n level) = ap (λ (x : Gated). x .gate) (pin-gate d n level)
+gate-follows d k (Clocks n) = ap (λ (x : Device). x .gate) (halves n d)
+gate-follows d k Reset = refl
+
+-- The part opens where its gate does.
+pub gate-opens : (d : Device) (k : ℕ) (e : Event) → effect d k e .openings ≡ opensBy (d .gate) k e
+unfolding effect
+gate-opens d k (Write r v) = refl
+gate-opens d k (Read r) = refl
+gate-opens d k PortAcknowledge = refl
+gate-opens d k TimerAcknowledge = refl
+gate-opens d k (Pin n level) = ap (λ (x : Gated). mark (x .opened) k []) (pin-gate d n level)
+gate-opens d k (Clocks n) = opens n k d
+gate-opens d k Reset = refl

@@ -1,0 +1,29 @@
+// Clocks of both pairs (01, 'Mode 0').
+use crate::Parallel;
+use port::Pair;
+ghost use mathlib.Core.Path.{_≡_};
+ghost use Rattle.parallel.specs.Clocking.{clockedParallel, clocksOf};
+
+impl Parallel {
+    // One clock.
+    pub fn clock(mut self) -> Parallel
+        ensures { λ r. ⌜ r ≡ clockedParallel self ⌝ }
+    {
+        let one = self.h12.clocked(self.rules(Pair::H12));
+        let two = self.h34.clocked(self.rules(Pair::H34));
+        self.h12 = one;
+        self.h34 = two;
+        self
+    }
+
+    // n clocks at once.
+    pub fn clocks(mut self, n: u32) -> Parallel
+        ensures { λ r. ⌜ r ≡ clocksOf n self ⌝ }
+    {
+        let one = self.h12.clocks(self.rules(Pair::H12), n);
+        let two = self.h34.clocks(self.rules(Pair::H34), n);
+        self.h12 = one;
+        self.h34 = two;
+        self
+    }
+}

@@ -1,0 +1,70 @@
+// Statuses, PSR, the port interrupt request and the port acknowledge (01, 'Interrupts', 'Registers').
+use crate::Parallel;
+use event::Answer;
+use interrupt::Flags;
+use interrupt::answering::acknowledge;
+use port::Pair;
+ghost use mathlib.Core.Path.{_≡_};
+ghost use Rattle.interrupt.specs.Enabling.{anyOf};
+ghost use Rattle.parallel.specs.Interrupts.{statusOf, statusesOf, psrOf, enabledOf, portAcknowledge};
+
+impl Parallel {
+    // H1S or H3S.
+    fn status(self, pair: Pair) -> bool
+        ensures { λ r. ⌜ r ≡ statusOf self pair ⌝ }
+    {
+        let link = self.link(pair);
+        link.first_status(self.rules(pair))
+    }
+
+    // H1S to H4S.
+    fn statuses(self) -> Flags
+        ensures { λ r. ⌜ r ≡ statusesOf self ⌝ }
+    {
+        Flags {
+            h1: self.status(Pair::H12),
+            h2: self.h12.flag2,
+            h3: self.status(Pair::H34),
+            h4: self.h34.flag2,
+        }
+    }
+
+    // PSR.
+    pub fn psr(self) -> u8
+        ensures { λ r. ⌜ r ≡ psrOf self ⌝ }
+    {
+        let set = self.statuses();
+        bits::packed(
+            self.second_level(Pair::H34),
+            self.h34.level1,
+            self.second_level(Pair::H12),
+            self.h12.level1,
+            set.h4,
+            set.h3,
+            set.h2,
+            set.h1,
+        )
+    }
+
+    // The statuses that are set and enabled.
+    fn enabled(self) -> Flags
+        ensures { λ r. ⌜ r ≡ enabledOf self ⌝ }
+    {
+        self.statuses()
+            .enabled(self.h12.control, self.h34.control, self.psrr)
+    }
+
+    // An enabled status is set.
+    pub fn requests(self) -> bool
+        ensures { λ r. ⌜ r ≡ anyOf (enabledOf self) ⌝ }
+    {
+        self.enabled().any()
+    }
+
+    // A port acknowledge, which changes nothing.
+    pub fn acknowledge(self) -> Answer
+        ensures { λ r. ⌜ r ≡ portAcknowledge self ⌝ }
+    {
+        acknowledge(self.psrr, self.pivr, self.enabled())
+    }
+}

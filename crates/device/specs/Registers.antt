@@ -6,7 +6,6 @@ use Rattle.bits.specs.Tables.{Entry, at, from, find}
 use Rattle.event.specs.Map.{PGCR, PSRR, PADDR, PBDDR, PCDDR, PIVR, PACR, PBCR, PADR, PBDR, PAAR, PBAR, PCDR, PSR}
 use Rattle.event.specs.Map.{TCR, TIVR, CPRH, CNTRH, TSR, numberBytes}
 use Rattle.port.specs.Parts.{withDirection}
-use Rattle.port.specs.declared.Pair.{Pair}
 use Rattle.port.specs.declared.Pair.the-variants.{H12, H34}
 use Rattle.port_c.specs.Parts.{withDirection as withDirectionC, withLatch}
 use Rattle.port_c.specs.Pins.{dataOf}
@@ -29,10 +28,6 @@ use Rattle.device.specs.declared.ReadOut.{ReadOut}
 -- a read that changes nothing
 abbrev pub plainly : Device → ℕ → ReadOut
 plainly d byte = record { device = d; byte = byte }
-
--- data A and B
-abbrev pub readData : Device → Pair → ReadOut
-readData d pair = plainly (withParallel d (dataRead (d .parallel) pair .parallel)) (dataRead (d .parallel) pair .byte)
 
 -- the byte that a read of each register gives: alternates read the eight pin levels; running counts read as they stand
 abbrev pub reads : Device → List (Entry ℕ)

@@ -1,5 +1,6 @@
 // The functions of include/pit.h for one event each. A function takes the device out of its bytes, lets one thing happen to it
-// and puts it back; where the bytes are not as many as a device has, nothing happens.
+// and puts it back, half by half where that is less work (docs/PERFORMANCE.md); where the bytes are not as many as a device has,
+// nothing happens.
 use crate::layout::SIZE;
 use crate::layout::device_of;
 use crate::layout::gate_of;
@@ -8,6 +9,7 @@ use crate::layout::parallel_of;
 use crate::layout::put_device;
 use device::Device;
 use event::Answer;
+use event::map;
 use port::Pair;
 use timer::ClockNumber;
 ghost use mathlib.Core.Path.{_≡_};
@@ -70,7 +72,7 @@ pub extern "C" fn pit_valid(device: &[u8]) -> u32
     if device.len() != SIZE {
         return WRONG_SIZE;
     }
-    device_of(device).valid() as u32
+    (parallel_of(device).sound() & gate_of(device).sound()) as u32
 }
 
 // Writes a register.
@@ -86,7 +88,7 @@ pub extern "C" fn pit_write(device: &mut [u8], number: u8, value: u8) -> u32
     0
 }
 
-// Reads a register.
+// Reads a register. Only data A and B change the device; where it stays, the compiler stores its flags alone (docs/PERFORMANCE.md).
 #[no_mangle]
 pub extern "C" fn pit_read(device: &mut [u8], number: u8) -> u32
     ensures answer { λ r. ⌜ r ≡ readAnswer (now (device .entry)) number ⌝ }
@@ -95,10 +97,19 @@ pub extern "C" fn pit_read(device: &mut [u8], number: u8) -> u32
     if device.len() != SIZE {
         return WRONG_SIZE;
     }
-    let got = device_of(device).read(number);
+    let d = device_of(device);
+    let got = d.read(number);
     let after = got.device;
-    put_device(after, device);
-    got.byte as u32
+    match number {
+        map::PADR | map::PBDR => {
+            put_device(after, device);
+            got.byte as u32
+        }
+        _ => {
+            put_device(d, device);
+            got.byte as u32
+        }
+    }
 }
 
 // An outside level comes to a pin.
@@ -134,9 +145,16 @@ pub extern "C" fn pit_clocks(
     if device.len() != SIZE {
         return WRONG_SIZE;
     }
-    let run = device_of(device).clocks(clocks, ClockNumber(passed), openings, 0);
-    let after = run.device;
-    put_device(after, device);
+    let parallel = parallel_of(device).clocks(clocks);
+    let run = gate_of(device).clocks(clocks, ClockNumber(passed), openings, 0);
+    let gate = run.gate;
+    put_device(
+        Device {
+            parallel: parallel,
+            gate: gate,
+        },
+        device,
+    );
     *opened = run.used as u32;
     0
 }

@@ -31,7 +31,7 @@ module _ (d : Device) (starts : Starts d) (es : List Event) (undisturbed : Undis
   high = high-runs (d .gate .timer .tcr) (tinLevel (d .gate .c)) (starts .runs)
 
   itself : Follows (d .gate .timer) (d .gate)
-  itself = record { alike = record { tcr = refl; preload = refl; count = refl; prescaler = refl; due = refl }; runs = starts .runs }
+  itself = record { alike = refl; runs = starts .runs }
 
   module _ (some : 1 ≤ preloadOf d) where
     loading : Loading true (d .gate .timer)

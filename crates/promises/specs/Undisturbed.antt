@@ -114,9 +114,7 @@ module _ (t : Timer) (g : Gate) (f : Follows t g) where
 
   -- and whatever TIVR and ZDS show
   shown : (tivr : ℕ) (zds : Bool) → Follows t (withTimer g (withZds (withTivr (g .timer) tivr) zds))
-  shown tivr zds =
-      let a = f .alike in
-      record { alike = record { tcr = a .tcr; preload = a .preload; count = a .count; prescaler = a .prescaler; due = a .due }; runs = f .runs }
+  shown tivr zds = record { alike = f .alike; runs = f .runs }
 
   write-follows : (r v : ℕ) → Undisturbing (t .tcr) (Write r v) → Follows t (gateWritten g r v)
   unfolding writeTsr clearedOf
@@ -137,7 +135,7 @@ module _ (t : Timer) (g : Gate) (f : Follows t g) where
       (λ x a. (same-follows x a, refl))
       (λ e.
       let tin = tinLevel (g .c) in
-      let runs = level-runs (g .timer .tcr) tin level (f .runs) (λ s. u (ap sourceOf (sym (f .alike .tcr)) ∙ s) e) in
+      let runs = level-runs (g .timer .tcr) tin level (f .runs) (λ s. u (ap (λ (x : Timer). sourceOf (x .tcr)) (sym (f .alike)) ∙ s) e) in
       let still = tin-quiet (g .timer) tin level runs in
       (record { alike = rw still (f .alike); runs = rw (tin-level g level, still) runs }, rw still))
 

@@ -14,7 +14,7 @@ use Rattle.port.specs.Buffering.{places, storedCount, removedCount, filledCount
 use Rattle.port.specs.Moving.{movedCount}
 use Rattle.port.specs.Control.{modeOf, submodeField, handshakeField, wayOf, handshakeOf, enabledOf, rulesOf, directOf, sensesOf, locksOf, drivesOf}
 use Rattle.port.specs.Handshaking.{waitOf, longest, movableOf, readyOf, acceptsOf, clockedStrobe, strobeAfter}
-use Rattle.port.specs.Parts.{linkWith, withControl, withFlags, withLevels}
+use Rattle.port.specs.Parts.{strobeWith, linkWith, withControl, withFlags, withLevels}
 use Rattle.port.specs.Edges.{restartedOf, flushedOf, firstEdge, secondEdge}
 use Rattle.port.specs.Data.{countedOf, readCount, writtenCount, readOf, writtenOf}
 use Rattle.port.specs.Switching.{pgcrWritten, controlWritten, flagsClearedOf}
@@ -256,7 +256,7 @@ linkAt l x =
     linkWith l
     (l .control)
     (x .1 .0)
-    (record { wait = x .1 .1 .0; pulse = x .1 .1 .1 .0; asserted = x .1 .1 .1 .1 .0 })
+    (strobeWith (l .strobe) (x .1 .1 .0) (x .1 .1 .1 .0) (x .1 .1 .1 .1 .0))
     (x .1 .1 .1 .1 .1 .0)
     (x .1 .1 .1 .1 .1 .1)
     (l .level1)

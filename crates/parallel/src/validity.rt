@@ -9,8 +9,10 @@ impl Parallel {
     pub fn sound(self) -> bool
         ensures { λ r. ⌜ r ≡ soundOf self ⌝ }
     {
-        let one = self.h12.sound(self.rules(Pair::H12));
-        let two = self.h34.sound(self.rules(Pair::H34));
+        let h12 = self.h12;
+        let h34 = self.h34;
+        let one = h12.sound(self.rules(Pair::H12));
+        let two = h34.sound(self.rules(Pair::H34));
         !bits::bit(self.psrr, 7)
             & ((self.pivr & 3 == 0) | (self.pivr == Parallel::VECTOR))
             & one

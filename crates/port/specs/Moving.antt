@@ -2,17 +2,11 @@
 use Prim.Native.Nat.{ℕ}
 use mathlib.Core.Bool.{Bool}
 use Rattle.bits.specs.Choice.{if_then_else_}
-use Rattle.port.specs.Buffering.{Places, storedAt, removedAt, oldestAt, filledAt, takenAt, latchedAt, storedCount, takenCount}
+use Rattle.port.specs.Buffering.{storedAt, removedAt, oldestAt, filledAt, takenAt, latchedAt, storedCount, takenCount}
+use Rattle.port.specs.Parts.{placesOf, cellsOf}
 use Rattle.port.specs.declared.Way.{Way}
 use Rattle.port.specs.declared.Way.the-variants.{Input, Output, Direct}
 use Rattle.port.specs.declared.Cells.{Cells}
-
--- a port's cells are places of bytes
-abbrev pub placesOf : Cells → Places ℕ
-placesOf c = record { latch = c .latch; initial = c .initial; first = c .first; second = c .second; last = c .last }
-
-abbrev pub cellsOf : Places ℕ → Cells
-cellsOf p = record { latch = p .latch; initial = p .initial; first = p .first; second = p .second; last = p .last }
 
 unfoldable pub storedOf : ℕ → Cells → ℕ → Cells
 storedOf held c x = cellsOf (storedAt held (placesOf c) x)

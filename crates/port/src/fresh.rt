@@ -4,7 +4,7 @@ use crate::Link;
 use crate::Port;
 use crate::Strobe;
 ghost use mathlib.Core.Path.{_≡_};
-ghost use Rattle.port.specs.Fresh.{freshPort, resetPort, freshLink, resetLink};
+ghost use Rattle.port.specs.Fresh.{freshPort, resetPort, still, freshLink, resetLink};
 
 impl Port {
     // A fresh port: every outside level high.
@@ -33,6 +33,19 @@ impl Port {
     }
 }
 
+impl Strobe {
+    // H2 with neither wait, pulse nor assertion.
+    pub(crate) fn still() -> Strobe
+        ensures { λ r. ⌜ r ≡ still ⌝ }
+    {
+        Strobe {
+            wait: 0,
+            pulse: 0,
+            asserted: false,
+        }
+    }
+}
+
 impl Link {
     // A fresh pair: both outside levels high.
     pub fn fresh() -> Link
@@ -41,11 +54,7 @@ impl Link {
         Link {
             control: 0,
             held: 0,
-            strobe: Strobe {
-                wait: 0,
-                pulse: 0,
-                asserted: false,
-            },
+            strobe: Strobe::still(),
             flag1: false,
             flag2: false,
             level1: true,
@@ -59,9 +68,7 @@ impl Link {
     {
         self.control = 0;
         self.held = 0;
-        self.strobe.wait = 0;
-        self.strobe.pulse = 0;
-        self.strobe.asserted = false;
+        self.strobe = Strobe::still();
         self.flag1 = false;
         self.flag2 = false;
         self

@@ -4,9 +4,9 @@ use borrow.Author.Needs.{needs}
 use Rattle.gate.proofs.Gate.clock.Statement.{statement}
 use Rattle.gate.proofs.Gate.clock.Tie as tie
 
-returns : tie.Need-returns
-unfolding clockedGate
-returns c = simp (sym (c .before .before .tin .ensures), sym (c .before .clocked .ensures))
-
 pub clock-spec : {M : Type 1} → statement M
-clock-spec = tie.close (tie.spec (λ c κs. search needs) (λ c κs. search needs) returns)
+unfolding clockedGate
+clock-spec =
+    tie.close
+    (tie.spec
+    (λ c κs. search needs) (λ c κs. search needs) (λ c. simp (sym (c .before .before .tin .ensures), sym (c .before .clocked .ensures))))

@@ -4,9 +4,6 @@ use borrow.Author.Needs.{needs}
 use Rattle.gate.proofs.Gate.fresh.Statement.{statement}
 use Rattle.gate.proofs.Gate.fresh.Tie as tie
 
-returns : tie.Need-returns
-unfolding freshGate
-returns c = simp (sym (c .before .fresh .ensures), sym (c .fresh2 .ensures))
-
 pub fresh-spec : {M : Type 1} → statement M
-fresh-spec = tie.close (tie.spec (λ c κs. search needs) (λ c κs. search needs) returns)
+unfolding freshGate
+fresh-spec = tie.close (tie.spec (λ c κs. search needs) (λ c κs. search needs) (λ c. simp (sym (c .before .fresh .ensures), sym (c .fresh2 .ensures))))

@@ -5,13 +5,10 @@ use borrow.Author.Needs.{needs}
 use Rattle.gate.proofs.Gate.line.Statement.{statement}
 use Rattle.gate.proofs.Gate.line.Tie as tie
 
-returns : tie.Need-returns
-unfolding lineEvent
-returns c = simp (eq-eqb _ _ (c .before .if1 .taken), sym (c .tin-event .ensures))
-
-returns-2 : tie.Need-returns-2
-unfolding lineEvent
-returns-2 c = simp (ne-eqb _ _ (c .before .before .before .if1 .left), sym (c .before .before .with-bit .ensures), sym (c .quietly .ensures))
-
 pub line-spec : {M : Type 1} → statement M
-line-spec = tie.close (tie.spec (λ c κs. search needs) returns (λ c κs. search needs) (λ c κs. search needs) returns-2)
+unfolding lineEvent
+line-spec =
+    tie.close
+    (tie.spec
+    (λ c κs. search needs) (λ c. simp (eq-eqb _ _ (c .before .if1 .taken), sym (c .tin-event .ensures))) (λ c κs. search needs) (λ c κs. search needs)
+    (λ c. simp (ne-eqb _ _ (c .before .before .before .if1 .left), sym (c .before .before .with-bit .ensures), sym (c .quietly .ensures))))

@@ -4,9 +4,6 @@ use borrow.Author.Needs.{needs}
 use Rattle.gate.proofs.Gate.reset.Statement.{statement}
 use Rattle.gate.proofs.Gate.reset.Tie as tie
 
-returns : tie.Need-returns
-unfolding resetGate
-returns c = simp (sym (c .before .reset .ensures), sym (c .reset2 .ensures))
-
 pub reset-spec : {M : Type 1} → statement M
-reset-spec = tie.close (tie.spec (λ c κs. search needs) (λ c κs. search needs) returns)
+unfolding resetGate
+reset-spec = tie.close (tie.spec (λ c κs. search needs) (λ c κs. search needs) (λ c. simp (sym (c .before .reset .ensures), sym (c .reset2 .ensures))))

@@ -4,9 +4,6 @@ use borrow.Author.Needs.{needs}
 use Rattle.gate.proofs.Gate.sound.Statement.{statement}
 use Rattle.gate.proofs.Gate.sound.Tie as tie
 
-returns : tie.Need-returns
-unfolding soundGate
-returns c = simp (sym (c .before .tin .ensures), sym (c .sound .ensures))
-
 pub sound-spec : {M : Type 1} → statement M
-sound-spec = tie.close (tie.spec (λ c κs. search needs) (λ c κs. search needs) returns)
+unfolding soundGate
+sound-spec = tie.close (tie.spec (λ c κs. search needs) (λ c κs. search needs) (λ c. simp (sym (c .before .tin .ensures), sym (c .sound .ensures))))

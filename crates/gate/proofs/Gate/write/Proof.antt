@@ -5,26 +5,6 @@ use borrow.Author.Needs.{needs}
 use Rattle.gate.proofs.Gate.write.Statement.{statement}
 use Rattle.gate.proofs.Gate.write.Tie as tie
 
-returns : tie.Need-returns
-unfolding gateWritten
-returns c = simp (c .before .match .keys1)
-
-returns-2 : tie.Need-returns-2
-unfolding gateWritten
-returns-2 c = simp (c .before .match .keys2)
-
-returns-3 : tie.Need-returns-3
-unfolding gateWritten
-returns-3 c = simp (c .before .match .keys3, sym (c .write-tcr .ensures))
-
-returns-4 : tie.Need-returns-4
-unfolding gateWritten
-returns-4 c = simp (c .before .match .keys4)
-
-returns-5 : tie.Need-returns-5
-unfolding gateWritten
-returns-5 c = simp (c .before .match .keys5, sym (c .write-tsr .ensures))
-
 returns-6 : tie.Need-returns-6
 unfolding gateWritten
 returns-6 c =
@@ -35,9 +15,7 @@ returns-6 c =
       ne-eqb _ _ (c .before .before .before .match .rest .0 .1),
       ne-eqb _ _ (c .before .before .before .match .rest .1),
       le-leb _ _ (c .before .before .if1 .left),
-      le-ltb _ _ (c .before .before .if1 .left),
       lt-ltb _ _ (c .before .if2 .taken),
-      lt-leb _ _ (c .before .if2 .taken),
       sym (c .write-preload .ensures),
     )
 
@@ -50,7 +28,6 @@ returns-7 c =
       ne-eqb _ _ (c .before .match .rest .0 .0 .1),
       ne-eqb _ _ (c .before .match .rest .0 .1),
       ne-eqb _ _ (c .before .match .rest .1),
-      lt-ltb _ _ (c .if1 .taken),
       lt-leb _ _ (c .if1 .taken),
     )
 
@@ -64,14 +41,14 @@ returns-8 c =
       ne-eqb _ _ (c .before .before .match .rest .0 .1),
       ne-eqb _ _ (c .before .before .match .rest .1),
       le-leb _ _ (c .before .if1 .left),
-      le-ltb _ _ (c .before .if1 .left),
-      le-leb _ _ (c .if2 .left),
       le-ltb _ _ (c .if2 .left),
     )
 
 pub write-spec : {M : Type 1} → statement M
+unfolding gateWritten
 write-spec =
     tie.close
     (tie.spec
-    (λ c κs. search needs) (λ c κs. search needs) (λ c κs. search needs) returns returns-2 returns-3 returns-4 returns-5 returns-6 returns-7
-    returns-8)
+    (λ c κs. search needs) (λ c κs. search needs) (λ c κs. search needs) (λ c. simp (c .before .match .keys1)) (λ c. simp (c .before .match .keys2))
+    (λ c. simp (c .before .match .keys3, sym (c .write-tcr .ensures))) (λ c. simp (c .before .match .keys4))
+    (λ c. simp (c .before .match .keys5, sym (c .write-tsr .ensures))) returns-6 returns-7 returns-8)

@@ -4,9 +4,6 @@ use borrow.Author.Needs.{needs}
 use Rattle.gate.proofs.Gate.write_preload.Statement.{statement}
 use Rattle.gate.proofs.Gate.write_preload.Tie as tie
 
-returns : tie.Need-returns
-unfolding writePreload
-returns c = simp (sym (c .preloaded .ensures))
-
 pub write-preload-spec : {M : Type 1} → statement M
-write-preload-spec = tie.close (tie.spec (λ c κs. search needs) returns)
+unfolding writePreload
+write-preload-spec = tie.close (tie.spec (λ c κs. search needs) (λ c. simp (sym (c .preloaded .ensures))))

@@ -4,9 +4,6 @@ use borrow.Author.Needs.{needs}
 use Rattle.gate.proofs.Gate.write_tcr.Statement.{statement}
 use Rattle.gate.proofs.Gate.write_tcr.Tie as tie
 
-returns : tie.Need-returns
-unfolding writeTcr
-returns c = simp (sym (c .before .tin .ensures), sym (c .controlled .ensures))
-
 pub write-tcr-spec : {M : Type 1} → statement M
-write-tcr-spec = tie.close (tie.spec (λ c κs. search needs) (λ c κs. search needs) returns)
+unfolding writeTcr
+write-tcr-spec = tie.close (tie.spec (λ c κs. search needs) (λ c κs. search needs) (λ c. simp (sym (c .before .tin .ensures), sym (c .controlled .ensures))))

@@ -4,9 +4,6 @@ use borrow.Author.Needs.{needs}
 use Rattle.gate.proofs.Gate.write_tsr.Statement.{statement}
 use Rattle.gate.proofs.Gate.write_tsr.Tie as tie
 
-returns : tie.Need-returns
-unfolding writeTsr
-returns c = simp (sym (c .cleared .ensures))
-
 pub write-tsr-spec : {M : Type 1} → statement M
-write-tsr-spec = tie.close (tie.spec (λ c κs. search needs) returns)
+unfolding writeTsr
+write-tsr-spec = tie.close (tie.spec (λ c κs. search needs) (λ c. simp (sym (c .cleared .ensures))))

@@ -4,9 +4,9 @@ use borrow.Author.Needs.{needs}
 use Rattle.parallel.proofs.Parallel.acknowledge.Statement.{statement}
 use Rattle.parallel.proofs.Parallel.acknowledge.Tie as tie
 
-returns : tie.Need-returns
-unfolding portAcknowledge
-returns c = simp (sym (c .before .enabled .ensures), sym (c .acknowledge .ensures))
-
 pub acknowledge-spec : {M : Type 1} → statement M
-acknowledge-spec = tie.close (tie.spec (λ c κs. search needs) (λ c κs. search needs) returns)
+unfolding portAcknowledge
+acknowledge-spec =
+    tie.close
+    (tie.spec
+    (λ c κs. search needs) (λ c κs. search needs) (λ c. simp (sym (c .before .enabled .ensures), sym (c .acknowledge .ensures))))

@@ -3,9 +3,10 @@ use borrow.Author.Needs.{needs}
 use Rattle.parallel.proofs.Parallel.fresh.Statement.{statement}
 use Rattle.parallel.proofs.Parallel.fresh.Tie as tie
 
-returns : tie.Need-returns
-unfolding freshParallel
-returns c = rw (c .fresh4 .ensures, c .before .fresh3 .ensures, c .before .before .fresh2 .ensures, c .before .before .before .fresh .ensures)
-
 pub fresh-spec : {M : Type 1} → statement M
-fresh-spec = tie.close (tie.spec (λ c κs. search needs) (λ c κs. search needs) (λ c κs. search needs) (λ c κs. search needs) returns)
+unfolding freshParallel
+fresh-spec =
+    tie.close
+    (tie.spec
+    (λ c κs. search needs) (λ c κs. search needs) (λ c κs. search needs) (λ c κs. search needs)
+    (λ c. rw (c .fresh4 .ensures, c .before .fresh3 .ensures, c .before .before .fresh2 .ensures, c .before .before .before .fresh .ensures)))

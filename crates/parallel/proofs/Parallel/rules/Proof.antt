@@ -4,9 +4,6 @@ use borrow.Author.Needs.{needs}
 use Rattle.parallel.proofs.Parallel.rules.Statement.{statement}
 use Rattle.parallel.proofs.Parallel.rules.Tie as tie
 
-returns : tie.Need-returns
-unfolding rulesAt
-returns c = simp (sym (c .before .link .ensures), sym (c .of .ensures))
-
 pub rules-spec : {M : Type 1} → statement M
-rules-spec = tie.close (tie.spec (λ c κs. search needs) (λ c κs. search needs) returns)
+unfolding rulesAt
+rules-spec = tie.close (tie.spec (λ c κs. search needs) (λ c κs. search needs) (λ c. simp (sym (c .before .link .ensures), sym (c .of .ensures))))

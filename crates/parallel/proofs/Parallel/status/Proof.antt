@@ -4,9 +4,10 @@ use borrow.Author.Needs.{needs}
 use Rattle.parallel.proofs.Parallel.status.Statement.{statement}
 use Rattle.parallel.proofs.Parallel.status.Tie as tie
 
-returns : tie.Need-returns
-unfolding statusOf
-returns c = simp (sym (c .before .before .link .ensures), sym (c .before .rules .ensures), sym (c .first-status .ensures))
-
 pub status-spec : {M : Type 1} → statement M
-status-spec = tie.close (tie.spec (λ c κs. search needs) (λ c κs. search needs) (λ c κs. search needs) returns)
+unfolding statusOf
+status-spec =
+    tie.close
+    (tie.spec
+    (λ c κs. search needs) (λ c κs. search needs) (λ c κs. search needs)
+    (λ c. simp (sym (c .before .before .link .ensures), sym (c .before .rules .ensures), sym (c .first-status .ensures))))

@@ -4,9 +4,6 @@ use borrow.Author.Needs.{needs}
 use Rattle.parallel.proofs.Parallel.statuses.Statement.{statement}
 use Rattle.parallel.proofs.Parallel.statuses.Tie as tie
 
-returns : tie.Need-returns
-unfolding statusesOf
-returns c = simp (sym (c .before .status .ensures), sym (c .status2 .ensures))
-
 pub statuses-spec : {M : Type 1} → statement M
-statuses-spec = tie.close (tie.spec (λ c κs. search needs) (λ c κs. search needs) returns)
+unfolding statusesOf
+statuses-spec = tie.close (tie.spec (λ c κs. search needs) (λ c κs. search needs) (λ c. simp (sym (c .before .status .ensures), sym (c .status2 .ensures))))

@@ -4,13 +4,12 @@ use borrow.Author.Needs.{needs}
 use Rattle.parallel.proofs.Parallel.write.Statement.{statement}
 use Rattle.parallel.proofs.Parallel.write.Tie as tie
 
-returns : tie.Need-returns
-unfolding writeData
-returns c = simp (sym (c .before .before .before .rules .ensures), sym (c .before .before .outputs .ensures), c .before .if1 .taken, sym (c .sent .ensures))
-
-returns-2 : tie.Need-returns-2
-unfolding writeData
-returns-2 c = simp (sym (c .before .before .before .rules .ensures), sym (c .before .before .outputs .ensures), c .before .if1 .left, sym (c .latched .ensures))
-
 pub write-spec : {M : Type 1} → statement M
-write-spec = tie.close (tie.spec (λ c κs. search needs) (λ c κs. search needs) (λ c κs. search needs) returns (λ c κs. search needs) returns-2)
+unfolding writeData
+write-spec =
+    tie.close
+    (tie.spec
+    (λ c κs. search needs) (λ c κs. search needs) (λ c κs. search needs)
+    (λ c. simp (sym (c .before .before .before .rules .ensures), sym (c .before .before .outputs .ensures), c .before .if1 .taken, sym (c .sent .ensures)))
+    (λ c κs. search needs)
+    (λ c. simp (sym (c .before .before .before .rules .ensures), sym (c .before .before .outputs .ensures), c .before .if1 .left, sym (c .latched .ensures))))

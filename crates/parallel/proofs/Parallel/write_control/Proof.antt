@@ -4,9 +4,10 @@ use borrow.Author.Needs.{needs}
 use Rattle.parallel.proofs.Parallel.write_control.Statement.{statement}
 use Rattle.parallel.proofs.Parallel.write_control.Tie as tie
 
-returns : tie.Need-returns
-unfolding writeControl
-returns c = simp (sym (c .before .before .link .ensures), sym (c .before .control-written .ensures), sym (c .with-link .ensures))
-
 pub write-control-spec : {M : Type 1} → statement M
-write-control-spec = tie.close (tie.spec (λ c κs. search needs) (λ c κs. search needs) (λ c κs. search needs) returns)
+unfolding writeControl
+write-control-spec =
+    tie.close
+    (tie.spec
+    (λ c κs. search needs) (λ c κs. search needs) (λ c κs. search needs)
+    (λ c. simp (sym (c .before .before .link .ensures), sym (c .before .control-written .ensures), sym (c .with-link .ensures))))

@@ -4,9 +4,9 @@ use borrow.Author.Needs.{needs}
 use Rattle.parallel.proofs.Parallel.write_pgcr.Statement.{statement}
 use Rattle.parallel.proofs.Parallel.write_pgcr.Tie as tie
 
-returns : tie.Need-returns
-unfolding writePgcr
-returns c = simp (sym (c .before .pgcr-written .ensures), sym (c .pgcr-written2 .ensures))
-
 pub write-pgcr-spec : {M : Type 1} → statement M
-write-pgcr-spec = tie.close (tie.spec (λ c κs. search needs) (λ c κs. search needs) returns)
+unfolding writePgcr
+write-pgcr-spec =
+    tie.close
+    (tie.spec
+    (λ c κs. search needs) (λ c κs. search needs) (λ c. simp (sym (c .before .pgcr-written .ensures), sym (c .pgcr-written2 .ensures))))

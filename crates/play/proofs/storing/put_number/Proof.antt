@@ -5,8 +5,9 @@ use borrow.Author.Needs.{needs}
 use Rattle.play.proofs.storing.put_number.Statement.{statement}
 use Rattle.play.proofs.storing.put_number.Tie as tie
 
-returns-2 : tie.Need-returns-2
-returns-2 c = sym (set-out (now (c .before .args .row)) (c .before .args .at) (c .before .args .number) (c .if1 .left))
-
 pub put-number-spec : {M : Type 1} → statement M
-put-number-spec = tie.close (tie.spec (λ c. search needs) (λ c. search needs) (λ c. search needs) (λ c. search needs) returns-2)
+put-number-spec =
+    tie.close
+    (tie.spec
+    (λ c. search needs) (λ c. search needs) (λ c. search needs) (λ c. search needs)
+    (λ c. sym (set-out (now (c .before .args .row)) (c .before .args .at) (c .before .args .number) (c .if1 .left))))

@@ -3,17 +3,10 @@ use Rattle.port.specs.Moving.{filledOf}
 use Rattle.port.proofs.Cells.filled.Statement.{statement}
 use Rattle.port.proofs.Cells.filled.Tie as tie
 
-returns : tie.Need-returns
-unfolding filledOf
-returns c = simp (eq-eqb _ _ (c .if1 .taken))
-
-returns-2 : tie.Need-returns-2
-unfolding filledOf
-returns-2 c = simp (ne-eqb _ _ (c .before .if1 .left), eq-eqb _ _ (c .if2 .taken))
-
-returns-3 : tie.Need-returns-3
-unfolding filledOf
-returns-3 c = simp (ne-eqb _ _ (c .before .if1 .left), ne-eqb _ _ (c .if2 .left))
-
 pub filled-spec : {M : Type 1} → statement M
-filled-spec = tie.close (tie.spec returns returns-2 returns-3)
+unfolding filledOf
+filled-spec =
+    tie.close
+    (tie.spec
+    (λ c. simp (eq-eqb _ _ (c .if1 .taken))) (λ c. simp (ne-eqb _ _ (c .before .if1 .left), eq-eqb _ _ (c .if2 .taken)))
+    (λ c. simp (ne-eqb _ _ (c .before .if1 .left), ne-eqb _ _ (c .if2 .left))))

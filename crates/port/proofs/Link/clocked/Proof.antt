@@ -4,9 +4,6 @@ use borrow.Author.Needs.{needs}
 use Rattle.port.proofs.Link.clocked.Statement.{statement}
 use Rattle.port.proofs.Link.clocked.Tie as tie
 
-returns : tie.Need-returns
-unfolding clockedStrobe
-returns c = simp (sym (c .clocked .ensures))
-
 pub clocked-spec : {M : Type 1} → statement M
-clocked-spec = tie.close (tie.spec (λ c κs. search needs) returns)
+unfolding clockedStrobe
+clocked-spec = tie.close (tie.spec (λ c κs. search needs) (λ c. simp (sym (c .clocked .ensures))))

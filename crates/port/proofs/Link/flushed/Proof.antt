@@ -4,9 +4,6 @@ use borrow.Author.Needs.{needs}
 use Rattle.port.proofs.Link.flushed.Statement.{statement}
 use Rattle.port.proofs.Link.flushed.Tie as tie
 
-returns : tie.Need-returns
-unfolding flushedOf
-returns c = simp (sym (c .restarted .ensures))
-
 pub flushed-spec : {M : Type 1} → statement M
-flushed-spec = tie.close (tie.spec (λ c κs. search needs) returns)
+unfolding flushedOf
+flushed-spec = tie.close (tie.spec (λ c κs. search needs) (λ c. simp (sym (c .restarted .ensures))))

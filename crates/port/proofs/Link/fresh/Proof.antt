@@ -1,11 +1,8 @@
-use mathlib.Core.Path.{refl}
 use Rattle.port.specs.Fresh.{freshLink}
+use borrow.Author.Needs.{needs}
 use Rattle.port.proofs.Link.fresh.Statement.{statement}
 use Rattle.port.proofs.Link.fresh.Tie as tie
 
-returns : tie.Need-returns
-unfolding freshLink
-returns c = refl
-
 pub fresh-spec : {M : Type 1} → statement M
-fresh-spec = tie.close (tie.spec returns)
+unfolding freshLink
+fresh-spec = tie.close (tie.spec (λ c κs. search needs) (λ c. rw (c .still .ensures)))

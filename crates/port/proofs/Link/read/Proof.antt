@@ -5,9 +5,6 @@ use borrow.Author.Needs.{needs}
 use Rattle.port.proofs.Link.read.Statement.{statement}
 use Rattle.port.proofs.Link.read.Tie as tie
 
-returns : tie.Need-returns
-unfolding readCount countedOf
-returns c = simp (sym (c .before .read-count .ensures), sym (c .counted .ensures))
-
 pub read-spec : {M : Type 1} → statement M
-read-spec = tie.close (tie.spec (λ c κs. search needs) (λ c κs. search needs) returns)
+unfolding readCount countedOf
+read-spec = tie.close (tie.spec (λ c κs. search needs) (λ c κs. search needs) (λ c. simp (sym (c .before .read-count .ensures), sym (c .counted .ensures))))

@@ -1,11 +1,8 @@
-use mathlib.Core.Path.{refl}
 use Rattle.port.specs.Fresh.{resetLink}
+use borrow.Author.Needs.{needs}
 use Rattle.port.proofs.Link.reset.Statement.{statement}
 use Rattle.port.proofs.Link.reset.Tie as tie
 
-returns : tie.Need-returns
-unfolding resetLink
-returns c = refl
-
 pub reset-spec : {M : Type 1} → statement M
-reset-spec = tie.close (tie.spec returns)
+unfolding resetLink
+reset-spec = tie.close (tie.spec (λ c κs. search needs) (λ c. rw (c .still .ensures)))

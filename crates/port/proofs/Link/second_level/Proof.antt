@@ -4,13 +4,10 @@ use borrow.Author.Needs.{needs}
 use Rattle.port.proofs.Link.second_level.Statement.{statement}
 use Rattle.port.proofs.Link.second_level.Tie as tie
 
-returns : tie.Need-returns
-unfolding secondLevel
-returns c = simp (sym (c .before .senses .ensures), c .if1 .taken)
-
-returns-2 : tie.Need-returns-2
-unfolding secondLevel
-returns-2 c = simp (sym (c .before .before .senses .ensures), c .before .if1 .left, sym (c .asserted .ensures))
-
 pub second-level-spec : {M : Type 1} → statement M
-second-level-spec = tie.close (tie.spec (λ c κs. search needs) returns (λ c κs. search needs) returns-2)
+unfolding secondLevel
+second-level-spec =
+    tie.close
+    (tie.spec
+    (λ c κs. search needs) (λ c. simp (sym (c .before .senses .ensures), c .if1 .taken)) (λ c κs. search needs)
+    (λ c. simp (sym (c .before .before .senses .ensures), c .before .if1 .left, sym (c .asserted .ensures))))

@@ -5,9 +5,9 @@ use borrow.Author.Needs.{needs}
 use Rattle.port.proofs.Link.written.Statement.{statement}
 use Rattle.port.proofs.Link.written.Tie as tie
 
-returns : tie.Need-returns
-unfolding writtenCount countedOf
-returns c = simp (sym (c .before .written-count .ensures), sym (c .counted .ensures))
-
 pub written-spec : {M : Type 1} → statement M
-written-spec = tie.close (tie.spec (λ c κs. search needs) (λ c κs. search needs) returns)
+unfolding writtenCount countedOf
+written-spec =
+    tie.close
+    (tie.spec
+    (λ c κs. search needs) (λ c κs. search needs) (λ c. simp (sym (c .before .written-count .ensures), sym (c .counted .ensures))))

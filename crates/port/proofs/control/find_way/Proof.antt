@@ -5,10 +5,6 @@ use borrow.Author.Needs.{needs}
 use Rattle.port.proofs.control.find_way.Statement.{statement}
 use Rattle.port.proofs.control.find_way.Tie as tie
 
-returns : tie.Need-returns
-unfolding wayOf
-returns c = simp (sym (c .before .mode .ensures), ne-eqb _ _ (c .if1 .taken))
-
 returns-2 : tie.Need-returns-2
 unfolding wayOf
 returns-2 c = simp (sym (c .before .before .before .mode .ensures), eq-eqb _ _ (c .before .before .if1 .left), sym (c .before .submode-field .ensures), c .match .keys1)
@@ -29,4 +25,9 @@ returns-4 c =
     )
 
 pub find-way-spec : {M : Type 1} → statement M
-find-way-spec = tie.close (tie.spec (λ c κs. search needs) returns (λ c κs. search needs) returns-2 returns-3 returns-4)
+unfolding wayOf
+find-way-spec =
+    tie.close
+    (tie.spec
+    (λ c κs. search needs) (λ c. simp (sym (c .before .mode .ensures), ne-eqb _ _ (c .if1 .taken))) (λ c κs. search needs) returns-2 returns-3
+    returns-4)

@@ -4,13 +4,10 @@ use borrow.Author.Needs.{needs}
 use Rattle.port.proofs.control.first_sense.Statement.{statement}
 use Rattle.port.proofs.control.first_sense.Tie as tie
 
-returns : tie.Need-returns
-unfolding firstSense
-returns c = simp (c .before .enum-told .given .1, sym (c .bit .ensures))
-
-returns-2 : tie.Need-returns-2
-unfolding firstSense
-returns-2 c = simp (c .before .enum-told2 .given .1, sym (c .bit2 .ensures))
-
 pub first-sense-spec : {M : Type 1} → statement M
-first-sense-spec = tie.close (tie.spec (λ c. search needs) (λ c κs. search needs) (λ c. search needs) (λ c κs. search needs) returns returns-2)
+unfolding firstSense
+first-sense-spec =
+    tie.close
+    (tie.spec
+    (λ c. search needs) (λ c κs. search needs) (λ c. search needs) (λ c κs. search needs)
+    (λ c. simp (c .before .enum-told .given .1, sym (c .bit .ensures))) (λ c. simp (c .before .enum-told2 .given .1, sym (c .bit2 .ensures))))

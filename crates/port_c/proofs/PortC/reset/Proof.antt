@@ -3,9 +3,6 @@ use Rattle.port_c.specs.Fresh.{resetC}
 use Rattle.port_c.proofs.PortC.reset.Statement.{statement}
 use Rattle.port_c.proofs.PortC.reset.Tie as tie
 
-returns : tie.Need-returns
-unfolding resetC
-returns c = refl
-
 pub reset-spec : {M : Type 1} → statement M
-reset-spec = tie.close (tie.spec returns)
+unfolding resetC
+reset-spec = tie.close (tie.spec (λ c. refl))

@@ -5,13 +5,11 @@ use borrow.Author.Needs.{needs}
 use Rattle.port_c.proofs.PortC.tin_pin.Statement.{statement}
 use Rattle.port_c.proofs.PortC.tin_pin.Tie as tie
 
-returns : tie.Need-returns
-unfolding tinPin
-returns c = simp (sym (c .before .before .source .ensures), eq-eqb _ _ (c .before .if1 .taken), sym (c .plain .ensures))
-
-returns-2 : tie.Need-returns-2
-unfolding tinPin
-returns-2 c = simp (sym (c .before .before .source .ensures), ne-eqb _ _ (c .before .if1 .left), sym (c .tin .ensures))
-
 pub tin-pin-spec : {M : Type 1} → statement M
-tin-pin-spec = tie.close (tie.spec (λ c κs. search needs) (λ c κs. search needs) returns (λ c κs. search needs) returns-2)
+unfolding tinPin
+tin-pin-spec =
+    tie.close
+    (tie.spec
+    (λ c κs. search needs) (λ c κs. search needs)
+    (λ c. simp (sym (c .before .before .source .ensures), eq-eqb _ _ (c .before .if1 .taken), sym (c .plain .ensures))) (λ c κs. search needs)
+    (λ c. simp (sym (c .before .before .source .ensures), ne-eqb _ _ (c .before .if1 .left), sym (c .tin .ensures))))

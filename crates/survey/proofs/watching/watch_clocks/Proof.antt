@@ -18,9 +18,9 @@ returns c =
     let still = idle _ (g .timer) no (c .before .before .before .args .n) in
     rw (still .ends, still .opens 0)
 
-returns-2 : tie.Need-returns-2
-unfolding watchedClocks gateRun
-returns-2 c = rw (c .before .before .clocks .ensures .0)
-
 pub watch-clocks-spec : {M : Type 1} → statement M
-watch-clocks-spec = tie.close (tie.spec (λ c κs. search needs) (λ c κs. search needs) returns (λ c. search needs) (λ c κs. search needs) returns-2)
+unfolding watchedClocks gateRun
+watch-clocks-spec =
+    tie.close
+    (tie.spec
+    (λ c κs. search needs) (λ c κs. search needs) returns (λ c. search needs) (λ c κs. search needs) (λ c. rw (c .before .before .clocks .ensures .0)))

@@ -2,8 +2,5 @@ use borrow.Author.Needs.{needs}
 use Rattle.timer.proofs.Timer.halted.Statement.{statement}
 use Rattle.timer.proofs.Timer.halted.Tie as tie
 
-returns : tie.Need-returns
-returns c = rw (c .before .before .halted .ensures)
-
 pub halted-spec : {M : Type 1} → statement M
-halted-spec = tie.close (tie.spec (λ c κs. search needs) returns)
+halted-spec = tie.close (tie.spec (λ c κs. search needs) (λ c. rw (c .before .before .halted .ensures)))

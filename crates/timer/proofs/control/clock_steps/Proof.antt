@@ -4,9 +4,6 @@ use borrow.Author.Needs.{needs}
 use Rattle.timer.proofs.control.clock_steps.Statement.{statement}
 use Rattle.timer.proofs.control.clock_steps.Tie as tie
 
-returns : tie.Need-returns
-unfolding clockSteps
-returns c = simp (sym (c .before .runs .ensures), sym (c .source .ensures))
-
 pub clock-steps-spec : {M : Type 1} → statement M
-clock-steps-spec = tie.close (tie.spec (λ c κs. search needs) (λ c κs. search needs) returns)
+unfolding clockSteps
+clock-steps-spec = tie.close (tie.spec (λ c κs. search needs) (λ c κs. search needs) (λ c. simp (sym (c .before .runs .ensures), sym (c .source .ensures))))

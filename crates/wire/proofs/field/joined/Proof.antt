@@ -14,8 +14,5 @@ side-by-side b0 b1 b2 h0 h1 h2 =
     ∙ ap (λ (x : ℕ). bitOr x b2) (or-shifted b0 16 (b1 * 2 ^ 8) (omega arith) ∙ e)
     ∙ or-shifted (b0 * 2 ^ 8 + b1) 8 b2 h2
 
-returns : tie.Need-returns
-returns c = side-by-side _ _ _ (c .fits .first .fits) (c .fits .second .fits) (c .fits .third .fits)
-
 pub joined-spec : {M : Type 1} → statement M
-joined-spec = tie.close (tie.spec returns)
+joined-spec = tie.close (tie.spec (λ c. side-by-side _ _ _ (c .fits .first .fits) (c .fits .second .fits) (c .fits .third .fits)))

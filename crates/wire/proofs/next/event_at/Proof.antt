@@ -31,26 +31,6 @@ returns-2 c =
     let register = c .register-or-pin2 .ensures ∙ head-register _ _ (k .pre .3) in
     simp (c .before .match .keys2, sym register)
 
-returns-3 : tie.Need-returns-3
-unfolding eventAt
-returns-3 c = simp (c .match .keys3)
-
-returns-4 : tie.Need-returns-4
-unfolding eventAt
-returns-4 c = simp (c .match .keys4)
-
-returns-5 : tie.Need-returns-5
-unfolding eventAt
-returns-5 c = simp (c .before .match .keys5, sym (c .pin-at .ensures))
-
-returns-6 : tie.Need-returns-6
-unfolding eventAt
-returns-6 c = simp (c .before .match .keys6, sym (c .field .ensures .0))
-
-returns-7 : tie.Need-returns-7
-unfolding eventAt
-returns-7 c = simp (c .match .keys7)
-
 returns-8 : tie.Need-returns-8
 unfolding eventAt
 returns-8 c =
@@ -61,8 +41,11 @@ returns-8 c =
     c .close .ensures ∙ ap (eventAt (now (a .list)) (a .at) (a .after)) (sym (seven (a .kind) (k .pre .2) past (r .0 .0 .1) (r .0 .1) (r .1)))
 
 pub event-at-spec : {M : Type 1} → statement M
+unfolding eventAt
 event-at-spec =
     tie.close
     (tie.spec
     (λ c κs. search needs) (λ c κs. search needs) (λ c κs. search needs) (λ c κs. search needs) (λ c. search needs) (λ c κs. search needs)
-    (λ c. search needs) (λ c κs. search needs) returns returns-2 returns-3 returns-4 returns-5 returns-6 returns-7 returns-8)
+    (λ c. search needs) (λ c κs. search needs) returns returns-2 (λ c. simp (c .match .keys3)) (λ c. simp (c .match .keys4))
+    (λ c. simp (c .before .match .keys5, sym (c .pin-at .ensures))) (λ c. simp (c .before .match .keys6, sym (c .field .ensures .0)))
+    (λ c. simp (c .match .keys7)) returns-8)

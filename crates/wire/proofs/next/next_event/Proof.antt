@@ -27,12 +27,6 @@ module _ (s : List ℕ) (at kind size : ℕ) (same : kind ≡ kindAt s at) (size
       let z = full in
       e ∙ (λ i. eventAt s at (at + full i) (same i)) ∙ sym (all-there s at short (omega arith))
 
-returns : tie.Need-returns
-returns c = let a = c .before .before .args in sym (too-long (now (a .list)) (a .at) (c .if1 .taken))
-
-returns-2 : tie.Need-returns-2
-returns-2 c = let a = c .before .before .before .args in sym (cut-short (now (a .list)) (a .at) (omega arith) (omega arith))
-
 returns-3 : tie.Need-returns-3
 returns-3 c =
     let a = c .before .before .before .before .before .before .args in
@@ -48,5 +42,6 @@ pub next-event-spec : {M : Type 1} → statement M
 next-event-spec =
     tie.close
     (tie.spec
-    returns returns-2 (λ c κs. search needs) (λ c κs. search needs) (λ c. search needs) (λ c. search needs) returns-3 (λ c κs. search needs)
-    returns-4)
+    (λ c. let a = c .before .before .args in sym (too-long (now (a .list)) (a .at) (c .if1 .taken)))
+    (λ c. let a = c .before .before .before .args in sym (cut-short (now (a .list)) (a .at) (omega arith) (omega arith))) (λ c κs. search needs)
+    (λ c κs. search needs) (λ c. search needs) (λ c. search needs) returns-3 (λ c κs. search needs) returns-4)

@@ -8,8 +8,5 @@ use Rattle.wire.proofs.next.register_or_pin.Tie as tie
 cast-result : tie.Need-cast-result
 cast-result c = omega (arith, mask-lt (c .args .head / 2 ^ 8) 5)
 
-returns : tie.Need-returns
-returns c = and-mask (c .args .head / 2 ^ 8) 5
-
 pub register-or-pin-spec : {M : Type 1} → statement M
-register-or-pin-spec = tie.close (tie.spec cast-result returns)
+register-or-pin-spec = tie.close (tie.spec cast-result (λ c. and-mask (c .args .head / 2 ^ 8) 5))

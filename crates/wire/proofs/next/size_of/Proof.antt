@@ -20,30 +20,16 @@ kind-alone (suc (suc (suc (suc (suc (suc zero)))))) write read pin clocks = refl
 kind-alone (suc (suc (suc (suc (suc (suc (suc zero))))))) write read pin clocks = refl
 kind-alone (suc (suc (suc (suc (suc (suc (suc (suc k)))))))) write read pin clocks = refl
 
-returns : tie.Need-returns
-unfolding sizeOf
-returns c = (sym (ap sizeOf (c .match .keys1)), omega arith)
-
-returns-2 : tie.Need-returns-2
-unfolding sizeOf
-returns-2 c = (sym (ap sizeOf (c .match .keys2)), omega arith)
-
-returns-3 : tie.Need-returns-3
-unfolding sizeOf
-returns-3 c = (sym (ap sizeOf (c .match .keys3)), omega arith)
-
-returns-4 : tie.Need-returns-4
-unfolding sizeOf
-returns-4 c = (sym (ap sizeOf (c .match .keys4)), omega arith)
-
 returns-5 : tie.Need-returns-5
 returns-5 c =
     let r = c .match .rest in
     (kind-alone (c .before .args .kind) (r .0 .0 .0 .1) (r .0 .0 .1) (r .0 .1) (r .1), omega arith)
 
 pub size-of-spec : {M : Type 1} → statement M
+unfolding sizeOf
 size-of-spec =
     tie.close
     (tie.spec
-    (λ c. search needs) (λ c. search needs) (λ c. search needs) (λ c. search needs) (λ c. search needs) (λ c. search needs) returns returns-2
-    returns-3 returns-4 returns-5)
+    (λ c. search needs) (λ c. search needs) (λ c. search needs) (λ c. search needs) (λ c. search needs) (λ c. search needs)
+    (λ c. (sym (ap sizeOf (c .match .keys1)), omega arith)) (λ c. (sym (ap sizeOf (c .match .keys2)), omega arith))
+    (λ c. (sym (ap sizeOf (c .match .keys3)), omega arith)) (λ c. (sym (ap sizeOf (c .match .keys4)), omega arith)) returns-5)

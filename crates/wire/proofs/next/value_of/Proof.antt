@@ -7,8 +7,5 @@ use Rattle.wire.proofs.next.value_of.Tie as tie
 cast-result : tie.Need-cast-result
 cast-result c = omega (arith, mask-lt (c .args .head) 8)
 
-returns : tie.Need-returns
-returns c = and-mask (c .args .head) 8
-
 pub value-of-spec : {M : Type 1} → statement M
-value-of-spec = tie.close (tie.spec cast-result returns)
+value-of-spec = tie.close (tie.spec cast-result (λ c. and-mask (c .args .head) 8))

@@ -27,15 +27,6 @@ returns c =
     let v = c .before .before .before .before .before .before .args .self in
     c .with-gate .ensures ∙ ap (withGate v) (c .before .write .ensures) ∙ sym (ap (followedOf v) (c .before .before .before .event .given .1))
 
-returns-2 : tie.Need-returns-2
-returns-2 c = c .answered .ensures ∙ sym (ap (followedOf (c .before .before .before .before .args .self)) (c .before .enum-told .given .1))
-
-returns-3 : tie.Need-returns-3
-returns-3 c = c .answered2 .ensures ∙ sym (ap (followedOf (c .before .before .before .before .args .self)) (c .before .enum-told2 .given .1))
-
-returns-4 : tie.Need-returns-4
-returns-4 c = c .answered3 .ensures ∙ sym (ap (followedOf (c .before .before .before .before .args .self)) (c .before .enum-told3 .given .1))
-
 returns-5 : tie.Need-returns-5
 returns-5 c =
     let v = c .before .before .before .before .before .before .args .self in
@@ -57,5 +48,8 @@ followed-spec =
     (tie.spec
     (λ c. search needs) (λ c κs. search needs) (λ c κs. search needs) (λ c. search needs) (λ c κs. search needs) (λ c. search needs)
     (λ c κs. search needs) (λ c. search needs) (λ c κs. search needs) (λ c. search needs) (λ c κs. search needs) watched-requires (λ c. search needs)
-    (λ c κs. search needs) watched-requires-2 (λ c. search needs) (λ c κs. search needs) (λ c κs. search needs) returns returns-2 returns-3 returns-4
-    returns-5 returns-6 returns-7)
+    (λ c κs. search needs) watched-requires-2 (λ c. search needs) (λ c κs. search needs) (λ c κs. search needs) returns
+    (λ c. c .answered .ensures ∙ sym (ap (followedOf (c .before .before .before .before .args .self)) (c .before .enum-told .given .1)))
+    (λ c. c .answered2 .ensures ∙ sym (ap (followedOf (c .before .before .before .before .args .self)) (c .before .enum-told2 .given .1)))
+    (λ c. c .answered3 .ensures ∙ sym (ap (followedOf (c .before .before .before .before .args .self)) (c .before .enum-told3 .given .1))) returns-5
+    returns-6 returns-7)

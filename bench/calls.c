@@ -88,6 +88,23 @@ static uint32_t call_h1(uint32_t random)
     return random + pit_pin(device, sizeof device, 24, level);
 }
 
+/* A byte taken in: both edges of H1, and a read of data A. A byte given out: a write of data B, and both edges of H3. */
+static uint32_t call_take(uint32_t random)
+{
+    uint32_t sum = pit_pin(device, sizeof device, 24, 0);
+
+    sum += pit_pin(device, sizeof device, 24, 1);
+    return random + sum + pit_read(device, sizeof device, 8);
+}
+
+static uint32_t call_give(uint32_t random)
+{
+    uint32_t sum = pit_write(device, sizeof device, 9, (uint8_t)random);
+
+    sum += pit_pin(device, sizeof device, 26, 0);
+    return random + sum + pit_pin(device, sizeof device, 26, 1);
+}
+
 static const struct {
     const char *name;
     uint32_t (*call)(uint32_t random);
@@ -105,6 +122,8 @@ static const struct {
     {"write_data", call_write_data},
     {"read_data", call_read_data},
     {"h1", call_h1},
+    {"take", call_take},
+    {"give", call_give},
 };
 
 static void begin(void)

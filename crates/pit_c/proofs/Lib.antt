@@ -1,3 +1,4 @@
 pub mod Stores
+pub mod Halves
 pub mod Outcomes
 pub mod Unique

@@ -6,6 +6,8 @@ use mathlib.Core.List.{List, [], _∷_}
 use lib.Dec.{eqb}
 use lib.ListN.{getD}
 use mir.Val.{boolByte}
+use Rattle.port.specs.declared.Port.{Port}
+use Rattle.port.specs.declared.Link.{Link}
 use Rattle.parallel.specs.declared.Parallel.{Parallel}
 use Rattle.gate.specs.declared.Gate.{Gate}
 use Rattle.device.specs.declared.Device.{Device}
@@ -19,7 +21,7 @@ abbrev pub flagByte : Bool → ℕ
 flagByte on = boolByte on
 
 -- the bytes of a device
-abbrev pub bytesOf : Device → List ℕ
+unfoldable pub bytesOf : Device → List ℕ
 bytesOf d =
     d .parallel .pgcr
     ∷ d .parallel .psrr
@@ -91,60 +93,49 @@ numberOf b0 b1 b2 b3 = b0 + b1 * 0x100 + b2 * 0x10000 + b3 * 0x1000000
 abbrev pub numberAt : List ℕ → ℕ → ℕ
 numberAt l i = numberOf (byteAt l i) (byteAt l (i + 1)) (byteAt l (i + 2)) (byteAt l (i + 3))
 
+-- where a port's bytes begin, and its pair's among them; the outside levels of its lines, and those of its pair's pins
+abbrev pub portAt : List ℕ → ℕ → ℕ → Port
+portAt l at outside = record {
+  direction = byteAt l at;
+  cells = record {
+    latch = byteAt l (at + 2);
+    initial = byteAt l (at + 3);
+    first = byteAt l (at + 4);
+    second = byteAt l (at + 5);
+    last = byteAt l (at + 7);
+  };
+  outside = byteAt l outside;
+}
+
+abbrev pub linkAt : List ℕ → ℕ → ℕ → Link
+linkAt l at levels = record {
+  control = byteAt l (at + 1);
+  held = byteAt l (at + 6);
+  strobe = record {
+    wait = byteAt l (at + 8);
+    pulse = byteAt l (at + 9);
+    asserted = flagAt l (at + 10);
+  };
+  flag1 = flagAt l (at + 11);
+  flag2 = flagAt l (at + 12);
+  level1 = flagAt l levels;
+  level2 = flagAt l (levels + 1);
+}
+
+-- how many bytes a port and its pair take, without their outside levels
+abbrev pub sideSize : ℕ
+sideSize = 13
+
 -- the half of ports and handshakes that bytes stand for
-abbrev pub parallelOf : List ℕ → Parallel
+unfoldable pub parallelOf : List ℕ → Parallel
 parallelOf l = record {
   pgcr = byteAt l 0;
   psrr = byteAt l 1;
   pivr = byteAt l 2;
-  a = record {
-    direction = byteAt l 3;
-    cells = record {
-      latch = byteAt l 5;
-      initial = byteAt l 6;
-      first = byteAt l 7;
-      second = byteAt l 8;
-      last = byteAt l 10;
-    };
-    outside = byteAt l 45;
-  };
-  b = record {
-    direction = byteAt l 16;
-    cells = record {
-      latch = byteAt l 18;
-      initial = byteAt l 19;
-      first = byteAt l 20;
-      second = byteAt l 21;
-      last = byteAt l 23;
-    };
-    outside = byteAt l 46;
-  };
-  h12 = record {
-    control = byteAt l 4;
-    held = byteAt l 9;
-    strobe = record {
-      wait = byteAt l 11;
-      pulse = byteAt l 12;
-      asserted = flagAt l 13;
-    };
-    flag1 = flagAt l 14;
-    flag2 = flagAt l 15;
-    level1 = flagAt l 48;
-    level2 = flagAt l 49;
-  };
-  h34 = record {
-    control = byteAt l 17;
-    held = byteAt l 22;
-    strobe = record {
-      wait = byteAt l 24;
-      pulse = byteAt l 25;
-      asserted = flagAt l 26;
-    };
-    flag1 = flagAt l 27;
-    flag2 = flagAt l 28;
-    level1 = flagAt l 50;
-    level2 = flagAt l 51;
-  };
+  a = portAt l 3 45;
+  b = portAt l 16 46;
+  h12 = linkAt l 3 48;
+  h34 = linkAt l 16 50;
 }
 
 -- the half of timer and port C that bytes, and the two numbers among them, stand for
@@ -177,9 +168,13 @@ abbrev pub countPlace : ℕ
 countPlace = 37
 
 -- the half of timer and port C that bytes stand for
-abbrev pub gateOf : List ℕ → Gate
+unfoldable pub gateOf : List ℕ → Gate
 gateOf l = gateWith l (numberAt l preloadPlace) (numberAt l countPlace)
 
 -- the device that bytes stand for
 unfoldable pub deviceOf : List ℕ → Device
 deviceOf l = record { parallel = parallelOf l; gate = gateOf l }
+
+-- the bytes of ports and handshakes beside the timer and port C that bytes stand for
+abbrev pub bytesBeside : List ℕ → Parallel → List ℕ
+bytesBeside l p = bytesOf (record { parallel = p; gate = gateOf l })

@@ -18,7 +18,7 @@ use Rattle.parallel.specs.Pins.{pinsOf, secondLevel}
 use Rattle.device.specs.Pinned.{any-pin}
 use Rattle.device.specs.Pins.{pinsC, levelOf}
 use Rattle.device.specs.declared.Device.{Device}
-use Rattle.pit_c.specs.Layout.{byteAt, deviceOf}
+use Rattle.pit_c.specs.Layout.{byteAt, parallelOf, deviceOf}
 use Rattle.pit_c.specs.Calls.{levelsOf}
 
 -- a number's low byte has its bits 0 to 7
@@ -114,5 +114,5 @@ module _ (d : Device) (a8 : pinsOf (d .parallel) H12 < 2 ^ 8) (b8 : pinsOf (d .p
 
 -- every pin, of a device taken out of bytes
 pub level-bit : (l : List ℕ) → ((i : ℕ) → byteAt l i < 2 ^ 8) → (n : ℕ) → n < 28 → bitOf (levelsOf (deviceOf l)) n ≡ levelOf (deviceOf l) n
-unfolding pinsOf ownPort pinsC shownOf deviceOf
+unfolding pinsOf ownPort pinsC shownOf deviceOf parallelOf
 level-bit l b = shown (deviceOf l) (chosen-lt _ _ _ (b _) (b _)) (chosen-lt _ _ _ (b _) (b _)) (packed-lt _ _ _ _ _ _ _ _)

@@ -11,7 +11,8 @@ use lib.ListN.{length, drop, drop-of-length-le}
 use lib.Seq.{drop-cons}
 use Rattle.bits.specs.Choice.{if_then_else_, branch}
 use Rattle.device.specs.declared.Device.{Device}
-use Rattle.pit_c.specs.Layout.{size, flagByte, bytesOf, byteAt, flagAt, numberOf, numberAt, preloadPlace, countPlace, deviceOf}
+use Rattle.pit_c.specs.Layout.{size, flagByte, bytesOf, byteAt, flagAt, numberOf, numberAt, preloadPlace, countPlace}
+use Rattle.pit_c.specs.Layout.{parallelOf, gateOf, deviceOf}
 
 -- preload and count are 32-bit numbers, as every device's are
 pub record Fits (d : Device) : Type 0 where
@@ -35,7 +36,7 @@ number-back n h =
 
 -- a device is read back as it was stored
 pub device-back : (d : Device) → Fits d → deviceOf (bytesOf d) ≡ d
-unfolding deviceOf
+unfolding deviceOf parallelOf gateOf bytesOf
 device-back d f = simp (flag-back, number-back (d .gate .timer .preload .0) (f .preload), number-back (d .gate .timer .count .0) (f .count))
 
 -- four bytes make a 32-bit number
@@ -44,7 +45,7 @@ number-lt l b i = omega (arith, b i, b (i + 1), b (i + 2), b (i + 3))
 
 -- every device taken out of bytes is such a device
 pub taken-fits : (l : List ℕ) → ((i : ℕ) → byteAt l i < 2 ^ 8) → Fits (deviceOf l)
-unfolding deviceOf
+unfolding deviceOf gateOf
 taken-fits l b = record { preload = number-lt l b preloadPlace; count = number-lt l b countPlace }
 
 -- where the flags stand
@@ -109,7 +110,7 @@ tidy l p (suc n) i =
 
 -- bytes are stored back as they were read
 pub bytes-back : (l : List ℕ) → Plain l → bytesOf (deviceOf l) ≡ l
-unfolding deviceOf
+unfolding deviceOf parallelOf gateOf bytesOf
 bytes-back l p =
     let m = same-at l (p .bytes) preloadPlace in
     let n = same-at l (p .bytes) countPlace in

@@ -1,18 +1,25 @@
 // The functions of include/pit.h for one event each. A function takes the device out of its bytes, lets one thing happen to it
-// and puts it back, half by half where that is less work (docs/PERFORMANCE.md); where the bytes are not as many as a device has,
-// nothing happens.
+// and puts it back, or only the half that it happens to where that is less work (docs/PERFORMANCE.md); where the bytes are not as
+// many as a device has, nothing happens.
 use crate::layout::SIZE;
 use crate::layout::device_of;
 use crate::layout::gate_of;
 use crate::layout::number_of;
 use crate::layout::parallel_of;
 use crate::layout::put_device;
+use crate::layout::put_parallel;
 use device::Device;
 use event::Answer;
 use event::map;
+use gate::Gate;
+use parallel::Parallel;
 use port::Pair;
 use timer::ClockNumber;
 ghost use mathlib.Core.Path.{_≡_};
+ghost use lib.ListN.{length};
+ghost use Rattle.parallel.specs.Data.{readData, writeData};
+ghost use Rattle.parallel.specs.Pins.{firstPin, secondPin};
+ghost use Rattle.pit_c.specs.Layout.{size, parallelOf, bytesBeside};
 ghost use Rattle.pit_c.specs.Calls.{done, freshCall, validAnswer, writeCall, readCall, readAnswer, pinCall, pinAnswer};
 ghost use Rattle.pit_c.specs.Calls.{clocksCall, clocksRow, clocksOpened, resetCall};
 ghost use Rattle.pit_c.specs.Calls.{answerNumber, portAcknowledgeAnswer, timerAcknowledgeAnswer, levelsOf, levelsAnswer};
@@ -34,10 +41,11 @@ fn answer_number(answer: Answer) -> u32
 }
 
 // The levels shown at the 28 pins, bit n for pin n.
-fn levels(d: Device) -> u32
-    ensures { λ r. ⌜ r ≡ levelsOf d ⌝ }
+fn levels(p: Parallel, gate: Gate) -> u32
+    ensures { λ r. ⌜ r ≡ levelsOf (record { parallel = p; gate = gate }) ⌝ }
 {
-    let p = d.parallel;
+    let timer = gate.timer;
+    let c = gate.c.shown(timer, p.psrr, p.requests());
     let handshakes = bits::packed(
         false,
         false,
@@ -48,7 +56,49 @@ fn levels(d: Device) -> u32
         p.second_level(Pair::H12),
         p.h12.level1,
     );
-    number_of(p.pins(Pair::H12), p.pins(Pair::H34), d.pins_c(), handshakes)
+    number_of(p.pins(Pair::H12), p.pins(Pair::H34), c, handshakes)
+}
+
+// Writes data A or B.
+fn write_data(device: &mut [u8], pair: Pair, value: u8) -> u32
+    requires { ⌜ length (now device) ≡ size ⌝ }
+    ensures answer { λ r. ⌜ r ≡ 0 ⌝ }
+    ensures device { λ _. ⌜ now (device .exit) ≡ bytesBeside (now (device .entry)) (writeData (parallelOf (now (device .entry))) pair value) ⌝ }
+{
+    put_parallel(parallel_of(device).write(pair, value), device);
+    0
+}
+
+// Reads data A or B.
+fn read_data(device: &mut [u8], pair: Pair) -> u32
+    requires { ⌜ length (now device) ≡ size ⌝ }
+    ensures answer { λ r. ⌜ r ≡ readData (parallelOf (now (device .entry))) pair .byte ⌝ }
+    ensures device { λ _. ⌜ now (device .exit) ≡ bytesBeside (now (device .entry)) (readData (parallelOf (now (device .entry))) pair .parallel) ⌝ }
+{
+    let got = parallel_of(device).read(pair);
+    let after = got.parallel;
+    put_parallel(after, device);
+    got.byte as u32
+}
+
+// A level comes to H1 or H3.
+fn first_pin(device: &mut [u8], pair: Pair, level: bool) -> u32
+    requires { ⌜ length (now device) ≡ size ⌝ }
+    ensures answer { λ r. ⌜ r ≡ 0 ⌝ }
+    ensures device { λ _. ⌜ now (device .exit) ≡ bytesBeside (now (device .entry)) (firstPin (parallelOf (now (device .entry))) pair level) ⌝ }
+{
+    put_parallel(parallel_of(device).first_pin(pair, level), device);
+    0
+}
+
+// A level comes to H2 or H4.
+fn second_pin(device: &mut [u8], pair: Pair, level: bool) -> u32
+    requires { ⌜ length (now device) ≡ size ⌝ }
+    ensures answer { λ r. ⌜ r ≡ 0 ⌝ }
+    ensures device { λ _. ⌜ now (device .exit) ≡ bytesBeside (now (device .entry)) (secondPin (parallelOf (now (device .entry))) pair level) ⌝ }
+{
+    put_parallel(parallel_of(device).second_pin(pair, level), device);
+    0
 }
 
 // Makes a fresh device.
@@ -84,11 +134,17 @@ pub extern "C" fn pit_write(device: &mut [u8], number: u8, value: u8) -> u32
     if device.len() != SIZE {
         return WRONG_SIZE;
     }
-    put_device(device_of(device).write(number, value), device);
-    0
+    match number {
+        map::PADR => write_data(device, Pair::H12, value),
+        map::PBDR => write_data(device, Pair::H34, value),
+        _ => {
+            put_device(device_of(device).write(number, value), device);
+            0
+        }
+    }
 }
 
-// Reads a register. Only data A and B change the device; where it stays, the compiler stores its flags alone (docs/PERFORMANCE.md).
+// Reads a register. Only data A and B change the device.
 #[no_mangle]
 pub extern "C" fn pit_read(device: &mut [u8], number: u8) -> u32
     ensures answer { λ r. ⌜ r ≡ readAnswer (now (device .entry)) number ⌝ }
@@ -97,17 +153,13 @@ pub extern "C" fn pit_read(device: &mut [u8], number: u8) -> u32
     if device.len() != SIZE {
         return WRONG_SIZE;
     }
-    let d = device_of(device);
-    let got = d.read(number);
-    let after = got.device;
     match number {
-        map::PADR | map::PBDR => {
-            put_device(after, device);
-            got.byte as u32
-        }
+        map::PADR => read_data(device, Pair::H12),
+        map::PBDR => read_data(device, Pair::H34),
         _ => {
+            let d = device_of(device);
             put_device(d, device);
-            got.byte as u32
+            d.read(number).byte as u32
         }
     }
 }
@@ -121,10 +173,18 @@ pub extern "C" fn pit_pin(device: &mut [u8], pin: u8, level: u8) -> u32
     if device.len() != SIZE {
         return WRONG_SIZE;
     }
-    let stepped = device_of(device).pin(pin, level != 0);
-    let after = stepped.device;
-    put_device(after, device);
-    stepped.opened as u32
+    match pin {
+        map::H1 => first_pin(device, Pair::H12, level != 0),
+        map::H2 => second_pin(device, Pair::H12, level != 0),
+        map::H3 => first_pin(device, Pair::H34, level != 0),
+        map::H4 => second_pin(device, Pair::H34, level != 0),
+        _ => {
+            let stepped = device_of(device).pin(pin, level != 0);
+            let after = stepped.device;
+            put_device(after, device);
+            stepped.opened as u32
+        }
+    }
 }
 
 // Clocks pass, after those that passed before. The numbers of those that open go into the row, as far as it reaches, and how many
@@ -202,5 +262,5 @@ pub extern "C" fn pit_levels(device: &[u8]) -> u32
     if device.len() != SIZE {
         return WRONG_SIZE;
     }
-    levels(device_of(device))
+    levels(parallel_of(device), gate_of(device))
 }

@@ -1,5 +1,5 @@
 // The device as bytes (include/pit.h, 'Layout of the device'). What stands at which place is said here once for each way: in
-// `bytes_of`, and in `parallel_of` and `gate_of`.
+// `bytes_of`, and part by part in the functions that take a device out of them.
 use device::Device;
 use gate::Gate;
 use parallel::Parallel;
@@ -12,9 +12,10 @@ use timer::Count;
 use timer::Phase;
 use timer::Prescaler;
 use timer::Timer;
+ghost use Prim.Native.Nat.{_+_, _≤_, _<_};
 ghost use mathlib.Core.Path.{_≡_};
 ghost use lib.ListN.{length};
-ghost use Rattle.pit_c.specs.Layout.{size, numberOf, bytesOf, parallelOf, gateWith, gateOf, deviceOf};
+ghost use Rattle.pit_c.specs.Layout.{size, sideSize, numberOf, bytesOf, portAt, linkAt, parallelOf, gateWith, gateOf, deviceOf, bytesBeside};
 
 // How many bytes a device takes.
 pub(crate) const SIZE: usize = 52;
@@ -86,6 +87,48 @@ fn bytes_of(d: Device) -> [u8; SIZE]
     ]
 }
 
+// A port, whose bytes and its pair's begin at a place, and whose lines' outside levels stand at another.
+fn port_of(l: &[u8], at: usize, outside: usize) -> Port
+    requires { ⌜ length (now l) ≡ size ⌝ }
+    requires { ⌜ at + sideSize ≤ size ⌝ }
+    requires { ⌜ outside < size ⌝ }
+    ensures { λ r. ⌜ r ≡ portAt (now (l .entry)) at outside ⌝ }
+{
+    Port {
+        direction: l[at],
+        cells: Cells {
+            latch: l[at + 2],
+            initial: l[at + 3],
+            first: l[at + 4],
+            second: l[at + 5],
+            last: l[at + 7],
+        },
+        outside: l[outside],
+    }
+}
+
+// Its pair, whose pins' outside levels stand at a place of their own.
+fn link_of(l: &[u8], at: usize, levels: usize) -> Link
+    requires { ⌜ length (now l) ≡ size ⌝ }
+    requires { ⌜ at + sideSize ≤ size ⌝ }
+    requires { ⌜ levels + 1 < size ⌝ }
+    ensures { λ r. ⌜ r ≡ linkAt (now (l .entry)) at levels ⌝ }
+{
+    Link {
+        control: l[at + 1],
+        held: l[at + 6],
+        strobe: Strobe {
+            wait: l[at + 8],
+            pulse: l[at + 9],
+            asserted: l[at + 10] != 0,
+        },
+        flag1: l[at + 11] != 0,
+        flag2: l[at + 12] != 0,
+        level1: l[levels] != 0,
+        level2: l[levels + 1] != 0,
+    }
+}
+
 // The half of ports and handshakes that bytes stand for. They are read where they are lent: a copy of them, of a length that the
 // compiler does not see, would stay in every call (docs/PERFORMANCE.md).
 pub(crate) fn parallel_of(l: &[u8]) -> Parallel
@@ -96,54 +139,10 @@ pub(crate) fn parallel_of(l: &[u8]) -> Parallel
         pgcr: l[0],
         psrr: l[1],
         pivr: l[2],
-        a: Port {
-            direction: l[3],
-            cells: Cells {
-                latch: l[5],
-                initial: l[6],
-                first: l[7],
-                second: l[8],
-                last: l[10],
-            },
-            outside: l[45],
-        },
-        b: Port {
-            direction: l[16],
-            cells: Cells {
-                latch: l[18],
-                initial: l[19],
-                first: l[20],
-                second: l[21],
-                last: l[23],
-            },
-            outside: l[46],
-        },
-        h12: Link {
-            control: l[4],
-            held: l[9],
-            strobe: Strobe {
-                wait: l[11],
-                pulse: l[12],
-                asserted: l[13] != 0,
-            },
-            flag1: l[14] != 0,
-            flag2: l[15] != 0,
-            level1: l[48] != 0,
-            level2: l[49] != 0,
-        },
-        h34: Link {
-            control: l[17],
-            held: l[22],
-            strobe: Strobe {
-                wait: l[24],
-                pulse: l[25],
-                asserted: l[26] != 0,
-            },
-            flag1: l[27] != 0,
-            flag2: l[28] != 0,
-            level1: l[50] != 0,
-            level2: l[51] != 0,
-        },
+        a: port_of(l, 3, 45),
+        b: port_of(l, 16, 46),
+        h12: link_of(l, 3, 48),
+        h34: link_of(l, 16, 50),
     }
 }
 
@@ -201,4 +200,19 @@ pub(crate) fn put_device(device: Device, bytes: &mut [u8])
 {
     let row = bytes_of(device);
     bytes::copy(&row, bytes);
+}
+
+// Puts ports and handshakes into the bytes that are lent, beside the timer and port C that they stand for.
+pub(crate) fn put_parallel(parallel: Parallel, bytes: &mut [u8])
+    requires { ⌜ length (now bytes) ≡ size ⌝ }
+    ensures { λ _. ⌜ now (bytes .exit) ≡ bytesBeside (now (bytes .entry)) parallel ⌝ }
+{
+    let gate = gate_of(bytes);
+    put_device(
+        Device {
+            parallel: parallel,
+            gate: gate,
+        },
+        bytes,
+    );
 }

@@ -5,10 +5,6 @@ use Rattle.pit_c.specs.Calls.{done, freshCall}
 use Rattle.pit_c.proofs.calls.pit_fresh.Statement.{statement}
 use Rattle.pit_c.proofs.calls.pit_fresh.Tie as tie
 
-returns : tie.Need-returns
-unfolding done freshCall
-returns c = (rw (ne-eqb _ _ (c .if1 .taken)), rw (ne-eqb _ _ (c .if1 .taken)))
-
 returns-2 : tie.Need-returns-2
 unfolding done freshCall
 returns-2 c =
@@ -18,4 +14,9 @@ returns-2 c =
     (rw (eq-eqb _ _ (at-test .if1 .left)), rw (at-put-device .put-device .ensures, at-fresh .fresh .ensures, eq-eqb _ _ (at-test .if1 .left)))
 
 pub pit-fresh-spec : {M : Type 1} → statement M
-pit-fresh-spec = tie.close (tie.spec returns (λ c κs. search needs) (λ c κs. search needs) (λ c. search needs) returns-2)
+unfolding done freshCall
+pit-fresh-spec =
+    tie.close
+    (tie.spec
+    (λ c. (rw (ne-eqb _ _ (c .if1 .taken)), rw (ne-eqb _ _ (c .if1 .taken)))) (λ c κs. search needs) (λ c κs. search needs) (λ c. search needs)
+    returns-2)

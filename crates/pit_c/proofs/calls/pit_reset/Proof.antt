@@ -5,10 +5,6 @@ use Rattle.pit_c.specs.Calls.{done, resetCall}
 use Rattle.pit_c.proofs.calls.pit_reset.Statement.{statement}
 use Rattle.pit_c.proofs.calls.pit_reset.Tie as tie
 
-returns : tie.Need-returns
-unfolding done resetCall
-returns c = (rw (ne-eqb _ _ (c .if1 .taken)), rw (ne-eqb _ _ (c .if1 .taken)))
-
 returns-2 : tie.Need-returns-2
 unfolding done resetCall
 returns-2 c =
@@ -19,4 +15,9 @@ returns-2 c =
     (rw (eq-eqb _ _ (at-test .if1 .left)), rw (at-put-device .put-device .ensures, at-reset .reset .ensures, at-device-of .device-of .ensures, eq-eqb _ _ (at-test .if1 .left)))
 
 pub pit-reset-spec : {M : Type 1} → statement M
-pit-reset-spec = tie.close (tie.spec returns (λ c κs. search needs) (λ c κs. search needs) (λ c κs. search needs) (λ c. search needs) returns-2)
+unfolding done resetCall
+pit-reset-spec =
+    tie.close
+    (tie.spec
+    (λ c. (rw (ne-eqb _ _ (c .if1 .taken)), rw (ne-eqb _ _ (c .if1 .taken)))) (λ c κs. search needs) (λ c κs. search needs) (λ c κs. search needs)
+    (λ c. search needs) returns-2)

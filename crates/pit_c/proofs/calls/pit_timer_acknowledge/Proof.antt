@@ -6,13 +6,13 @@ use Rattle.pit_c.specs.Calls.{timerAcknowledgeAnswer}
 use Rattle.pit_c.proofs.calls.pit_timer_acknowledge.Statement.{statement}
 use Rattle.pit_c.proofs.calls.pit_timer_acknowledge.Tie as tie
 
-returns : tie.Need-returns
-unfolding timerAcknowledgeAnswer
-returns c = rw (ne-eqb _ _ (c .if1 .taken))
-
 returns-2 : tie.Need-returns-2
 unfolding timerAcknowledgeAnswer deviceOf
 returns-2 c = rw (c .answer-number .ensures, c .before .acknowledge .ensures, c .before .before .gate-of .ensures, eq-eqb _ _ (c .before .before .before .if1 .left))
 
 pub pit-timer-acknowledge-spec : {M : Type 1} → statement M
-pit-timer-acknowledge-spec = tie.close (tie.spec returns (λ c κs. search needs) (λ c κs. search needs) (λ c κs. search needs) returns-2)
+unfolding timerAcknowledgeAnswer
+pit-timer-acknowledge-spec =
+    tie.close
+    (tie.spec
+    (λ c. rw (ne-eqb _ _ (c .if1 .taken))) (λ c κs. search needs) (λ c κs. search needs) (λ c κs. search needs) returns-2)

@@ -7,10 +7,6 @@ use Rattle.pit_c.specs.Calls.{validAnswer}
 use Rattle.pit_c.proofs.calls.pit_valid.Statement.{statement}
 use Rattle.pit_c.proofs.calls.pit_valid.Tie as tie
 
-returns : tie.Need-returns
-unfolding validAnswer
-returns c = rw (ne-eqb _ _ (c .if1 .taken))
-
 returns-2 : tie.Need-returns-2
 unfolding validAnswer validOf deviceOf
 returns-2 c =
@@ -19,4 +15,9 @@ returns-2 c =
     rw (c .sound2 .ensures, at-gate-of .gate-of .ensures, at-gate-of .before .sound .ensures, at-parallel-of .parallel-of .ensures, eq-eqb _ _ (at-parallel-of .before .if1 .left))
 
 pub pit-valid-spec : {M : Type 1} → statement M
-pit-valid-spec = tie.close (tie.spec returns (λ c κs. search needs) (λ c κs. search needs) (λ c κs. search needs) (λ c κs. search needs) (λ c. search needs) returns-2)
+unfolding validAnswer
+pit-valid-spec =
+    tie.close
+    (tie.spec
+    (λ c. rw (ne-eqb _ _ (c .if1 .taken))) (λ c κs. search needs) (λ c κs. search needs) (λ c κs. search needs) (λ c κs. search needs)
+    (λ c. search needs) returns-2)

@@ -4,9 +4,6 @@ use borrow.Author.Needs.{needs}
 use Rattle.pit_c.proofs.layout.device_of.Statement.{statement}
 use Rattle.pit_c.proofs.layout.device_of.Tie as tie
 
-returns : tie.Need-returns
-unfolding deviceOf
-returns c = rw (c .gate-of .ensures, c .before .parallel-of .ensures)
-
 pub device-of-spec : {M : Type 1} → statement M
-device-of-spec = tie.close (tie.spec (λ c κs. search needs) (λ c κs. search needs) returns)
+unfolding deviceOf
+device-of-spec = tie.close (tie.spec (λ c κs. search needs) (λ c κs. search needs) (λ c. rw (c .gate-of .ensures, c .before .parallel-of .ensures)))

@@ -6,8 +6,9 @@ use borrow.Author.Needs.{needs}
 use Rattle.pit_c.proofs.layout.put_device.Statement.{statement}
 use Rattle.pit_c.proofs.layout.put_device.Tie as tie
 
-returns : tie.Need-returns
-returns c = c .before .before .copy .ensures .1 ∙ (copied _ _ (omega arith) ∙ c .before .before .before .before .before .bytes-of .ensures)
-
 pub put-device-spec : {M : Type 1} → statement M
-put-device-spec = tie.close (tie.spec (λ c κs. search needs) (λ c. search needs) (λ c κs. search needs) (λ c. search needs) returns)
+put-device-spec =
+    tie.close
+    (tie.spec
+    (λ c κs. search needs) (λ c. search needs) (λ c κs. search needs) (λ c. search needs)
+    (λ c. c .before .before .copy .ensures .1 ∙ (copied _ _ (omega arith) ∙ c .before .before .before .before .before .bytes-of .ensures)))

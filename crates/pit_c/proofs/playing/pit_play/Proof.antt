@@ -5,12 +5,6 @@ use Rattle.pit_c.proofs.Outcomes.{unplayed, refused, accepted}
 use Rattle.pit_c.proofs.playing.pit_play.Statement.{statement}
 use Rattle.pit_c.proofs.playing.pit_play.Tie as tie
 
-returns : tie.Need-returns
-returns c = unplayed _ _ _ _ _ (rw (ne-eqb _ _ (c .if1 .taken)))
-
-returns-2 : tie.Need-returns-2
-returns-2 c = unplayed _ _ _ _ _ (rw (eq-eqb _ _ (c .before .if1 .left), ne-eqb _ _ (c .if2 .taken)))
-
 returns-3 : tie.Need-returns-3
 returns-3 c =
     let at-refusal-test = c .before in
@@ -43,6 +37,7 @@ pub pit-play-spec : {M : Type 1} → statement M
 pit-play-spec =
     tie.close
     (tie.spec
-    returns returns-2 (λ c κs. search needs) (λ c κs. search needs) (λ c κs. search needs) (λ c. search needs) (λ c. search needs) (λ c. search needs)
-    (λ c. search needs) (λ c. search needs) returns-3 put-device-requires (λ c. search needs) (λ c. search needs) (λ c. search needs)
-    (λ c. search needs) returns-4)
+    (λ c. unplayed _ _ _ _ _ (rw (ne-eqb _ _ (c .if1 .taken))))
+    (λ c. unplayed _ _ _ _ _ (rw (eq-eqb _ _ (c .before .if1 .left), ne-eqb _ _ (c .if2 .taken)))) (λ c κs. search needs) (λ c κs. search needs)
+    (λ c κs. search needs) (λ c. search needs) (λ c. search needs) (λ c. search needs) (λ c. search needs) (λ c. search needs) returns-3
+    put-device-requires (λ c. search needs) (λ c. search needs) (λ c. search needs) (λ c. search needs) returns-4)

@@ -6,9 +6,10 @@ use Rattle.pit_c.proofs.Stores.{full}
 use Rattle.pit_c.proofs.playing.put_totals.Statement.{statement}
 use Rattle.pit_c.proofs.playing.put_totals.Tie as tie
 
-returns : tie.Need-returns
-unfolding totalsOf
-returns c = full (now (c .before .args .totals)) (totalsOf (c .before .args .outcome)) (c .before .pre)
-
 pub put-totals-spec : {M : Type 1} → statement M
-put-totals-spec = tie.close (tie.spec (λ c. search needs) (λ c. search needs) (λ c. search needs) (λ c. search needs) (λ c. search needs) (λ c. search needs) returns)
+unfolding totalsOf
+put-totals-spec =
+    tie.close
+    (tie.spec
+    (λ c. search needs) (λ c. search needs) (λ c. search needs) (λ c. search needs) (λ c. search needs) (λ c. search needs)
+    (λ c. full (now (c .before .args .totals)) (totalsOf (c .before .args .outcome)) (c .before .pre)))

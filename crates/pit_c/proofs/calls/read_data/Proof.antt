@@ -1,0 +1,17 @@
+-- `read_data` meets its contract.
+use borrow.Author.Needs.{needs}
+use Rattle.pit_c.proofs.calls.read_data.Statement.{statement}
+use Rattle.pit_c.proofs.calls.read_data.Tie as tie
+
+returns : tie.Need-returns
+returns c =
+    let at-put = c .before .before .before in
+    let at-read = at-put .before .before .before in
+    let read = at-read .read .ensures in
+    let of = at-read .before .parallel-of .ensures in
+    (rw (read, of), rw (at-put .put-parallel .ensures, read, of))
+
+pub read-data-spec : {M : Type 1} → statement M
+read-data-spec =
+    tie.close
+    (tie.spec (λ c κs. search needs) (λ c κs. search needs) (λ c κs. search needs) (λ c. search needs) (λ c. search needs) returns)

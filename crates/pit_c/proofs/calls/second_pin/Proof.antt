@@ -1,0 +1,14 @@
+-- `second_pin` meets its contract.
+use mathlib.Core.Path.{refl}
+use borrow.Author.Needs.{needs}
+use Rattle.pit_c.proofs.calls.second_pin.Statement.{statement}
+use Rattle.pit_c.proofs.calls.second_pin.Tie as tie
+
+returns : tie.Need-returns
+returns c =
+    let at-put = c .before .before in
+    let at-step = at-put .before .before in
+    (refl, rw (at-put .put-parallel .ensures, at-step .second-pin .ensures, at-step .before .parallel-of .ensures))
+
+pub second-pin-spec : {M : Type 1} → statement M
+second-pin-spec = tie.close (tie.spec (λ c κs. search needs) (λ c κs. search needs) (λ c κs. search needs) (λ c. search needs) returns)

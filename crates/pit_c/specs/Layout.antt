@@ -20,9 +20,9 @@ size = 52
 abbrev pub flagByte : Bool → ℕ
 flagByte on = boolByte on
 
--- the bytes of a device
-unfoldable pub bytesOf : Device → List ℕ
-bytesOf d =
+-- the bytes of a device, one by one
+abbrev pub rowOf : Device → List ℕ
+rowOf d =
     d .parallel .pgcr
     ∷ d .parallel .psrr
     ∷ d .parallel .pivr
@@ -77,6 +77,10 @@ bytesOf d =
     ∷ flagByte (d .parallel .h34 .level2)
     ∷ []
 
+-- the bytes of a device
+unfoldable pub bytesOf : Device → List ℕ
+bytesOf d = rowOf d
+
 -- byte i; past the end 0
 abbrev pub byteAt : List ℕ → ℕ → ℕ
 byteAt l i = getD l i 0
@@ -126,17 +130,21 @@ linkAt l at levels = record {
 abbrev pub sideSize : ℕ
 sideSize = 13
 
--- the half of ports and handshakes that bytes stand for
-unfoldable pub parallelOf : List ℕ → Parallel
-parallelOf l = record {
+-- the half of ports and handshakes that bytes, and its ports and pairs, stand for
+abbrev pub parallelWith : List ℕ → Port → Port → Link → Link → Parallel
+parallelWith l a b h12 h34 = record {
   pgcr = byteAt l 0;
   psrr = byteAt l 1;
   pivr = byteAt l 2;
-  a = portAt l 3 45;
-  b = portAt l 16 46;
-  h12 = linkAt l 3 48;
-  h34 = linkAt l 16 50;
+  a = a;
+  b = b;
+  h12 = h12;
+  h34 = h34;
 }
+
+-- the half of ports and handshakes that bytes stand for
+unfoldable pub parallelOf : List ℕ → Parallel
+parallelOf l = parallelWith l (portAt l 3 45) (portAt l 16 46) (linkAt l 3 48) (linkAt l 16 50)
 
 -- the half of timer and port C that bytes, and the two numbers among them, stand for
 abbrev pub gateWith : List ℕ → ℕ → ℕ → Gate

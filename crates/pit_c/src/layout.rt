@@ -15,7 +15,8 @@ use timer::Timer;
 ghost use Prim.Native.Nat.{_+_, _≤_, _<_};
 ghost use mathlib.Core.Path.{_≡_};
 ghost use lib.ListN.{length};
-ghost use Rattle.pit_c.specs.Layout.{size, sideSize, numberOf, bytesOf, portAt, linkAt, parallelOf, gateWith, gateOf, deviceOf, bytesBeside};
+ghost use Rattle.pit_c.specs.Layout.{size, sideSize, numberOf, rowOf, bytesOf, portAt, linkAt, parallelWith, parallelOf, gateWith, gateOf};
+ghost use Rattle.pit_c.specs.Layout.{deviceOf, bytesBeside};
 
 // How many bytes a device takes.
 pub(crate) const SIZE: usize = 52;
@@ -29,7 +30,7 @@ pub(crate) fn number_of(b0: u8, b1: u8, b2: u8, b3: u8) -> u32
 
 // The bytes of a device.
 fn bytes_of(d: Device) -> [u8; SIZE]
-    ensures { λ r. ⌜ r ≡ bytesOf d ⌝ }
+    ensures { λ r. ⌜ r ≡ rowOf d ⌝ }
 {
     [
         d.parallel.pgcr,
@@ -129,21 +130,33 @@ fn link_of(l: &[u8], at: usize, levels: usize) -> Link
     }
 }
 
+// The half of ports and handshakes that bytes, and its ports and pairs, stand for.
+fn parallel_with(l: &[u8], a: Port, b: Port, h12: Link, h34: Link) -> Parallel
+    requires { ⌜ length (now l) ≡ size ⌝ }
+    ensures { λ r. ⌜ r ≡ parallelWith (now (l .entry)) a b h12 h34 ⌝ }
+{
+    Parallel {
+        pgcr: l[0],
+        psrr: l[1],
+        pivr: l[2],
+        a: a,
+        b: b,
+        h12: h12,
+        h34: h34,
+    }
+}
+
 // The half of ports and handshakes that bytes stand for. They are read where they are lent: a copy of them, of a length that the
 // compiler does not see, would stay in every call (docs/PERFORMANCE.md).
 pub(crate) fn parallel_of(l: &[u8]) -> Parallel
     requires { ⌜ length (now l) ≡ size ⌝ }
     ensures { λ r. ⌜ r ≡ parallelOf (now (l .entry)) ⌝ }
 {
-    Parallel {
-        pgcr: l[0],
-        psrr: l[1],
-        pivr: l[2],
-        a: port_of(l, 3, 45),
-        b: port_of(l, 16, 46),
-        h12: link_of(l, 3, 48),
-        h34: link_of(l, 16, 50),
-    }
+    let a = port_of(l, 3, 45);
+    let b = port_of(l, 16, 46);
+    let h12 = link_of(l, 3, 48);
+    let h34 = link_of(l, 16, 50);
+    parallel_with(l, a, b, h12, h34)
 }
 
 // The half of timer and port C that bytes, and the two numbers among them, stand for.

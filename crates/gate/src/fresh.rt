@@ -18,10 +18,8 @@ impl Gate {
     pub fn reset(mut self) -> Gate
         ensures { λ r. ⌜ r ≡ resetGate self ⌝ }
     {
-        let timer = self.timer.reset();
-        let c = self.c.reset();
-        self.timer = timer;
-        self.c = c;
+        self.timer = self.timer.reset();
+        self.c = self.c.reset();
         self
     }
 }

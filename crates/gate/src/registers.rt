@@ -8,8 +8,7 @@ impl Gate {
     pub fn write_tcr(mut self, v: u8) -> Gate
         ensures { λ r. ⌜ r ≡ writeTcr self v ⌝ }
     {
-        let timer = self.timer.controlled(v, self.c.tin());
-        self.timer = timer;
+        self.timer = self.timer.controlled(v, self.c.tin());
         self
     }
 
@@ -17,16 +16,14 @@ impl Gate {
     pub fn write_preload(mut self, place: u8, v: u8) -> Gate
         ensures { λ r. ⌜ r ≡ writePreload self place v ⌝ }
     {
-        let timer = self.timer.preloaded(place, v);
-        self.timer = timer;
+        self.timer = self.timer.preloaded(place, v);
         self
     }
 
     pub fn write_tsr(mut self, v: u8) -> Gate
         ensures { λ r. ⌜ r ≡ writeTsr self v ⌝ }
     {
-        let timer = self.timer.cleared(v);
-        self.timer = timer;
+        self.timer = self.timer.cleared(v);
         self
     }
 
@@ -37,20 +34,24 @@ impl Gate {
         match register {
             map::PCDDR => {
                 self.c.direction = v;
-                self
             }
             map::PCDR => {
                 self.c.latch = v;
-                self
             }
-            map::TCR => self.write_tcr(v),
+            map::TCR => {
+                self = self.write_tcr(v);
+            }
             map::TIVR => {
                 self.timer.tivr = v;
-                self
             }
-            map::CPRH..=map::CPRL => self.write_preload(register - map::CPRH, v),
-            map::TSR => self.write_tsr(v),
-            _ => self,
+            map::CPRH..=map::CPRL => {
+                self = self.write_preload(register - map::CPRH, v);
+            }
+            map::TSR => {
+                self = self.write_tsr(v);
+            }
+            _ => {}
         }
+        self
     }
 }

@@ -9,10 +9,10 @@ impl Parallel {
     pub fn clock(mut self) -> Parallel
         ensures { λ r. ⌜ r ≡ clockedParallel self ⌝ }
     {
-        let one = self.h12.clocked(self.rules(Pair::H12));
-        let two = self.h34.clocked(self.rules(Pair::H34));
-        self.h12 = one;
-        self.h34 = two;
+        let one = self.rules(Pair::H12);
+        let two = self.rules(Pair::H34);
+        self.h12 = self.h12.clocked(one);
+        self.h34 = self.h34.clocked(two);
         self
     }
 
@@ -20,10 +20,10 @@ impl Parallel {
     pub fn clocks(mut self, n: u32) -> Parallel
         ensures { λ r. ⌜ r ≡ clocksOf n self ⌝ }
     {
-        let one = self.h12.clocks(self.rules(Pair::H12), n);
-        let two = self.h34.clocks(self.rules(Pair::H34), n);
-        self.h12 = one;
-        self.h34 = two;
+        let one = self.rules(Pair::H12);
+        let two = self.rules(Pair::H34);
+        self.h12 = self.h12.clocks(one, n);
+        self.h34 = self.h34.clocks(two, n);
         self
     }
 }

@@ -59,13 +59,12 @@ impl Parallel {
         match pair {
             Pair::H12 => {
                 self.a.cells.latch = v;
-                self
             }
             Pair::H34 => {
                 self.b.cells.latch = v;
-                self
             }
         }
+        self
     }
 
     // A write of the data register of a pair's own port.

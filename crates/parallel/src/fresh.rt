@@ -29,17 +29,13 @@ impl Parallel {
     pub fn reset(mut self) -> Parallel
         ensures { λ r. ⌜ r ≡ resetOf self ⌝ }
     {
-        let a = self.a.reset();
-        let b = self.b.reset();
-        let one = self.h12.reset();
-        let two = self.h34.reset();
         self.pgcr = 0;
         self.psrr = 0;
         self.pivr = Parallel::VECTOR;
-        self.a = a;
-        self.b = b;
-        self.h12 = one;
-        self.h34 = two;
+        self.a = self.a.reset();
+        self.b = self.b.reset();
+        self.h12 = self.h12.reset();
+        self.h34 = self.h34.reset();
         self
     }
 }

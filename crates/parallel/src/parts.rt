@@ -28,13 +28,12 @@ impl Parallel {
         match pair {
             Pair::H12 => {
                 self.h12 = link;
-                self
             }
             Pair::H34 => {
                 self.h34 = link;
-                self
             }
         }
+        self
     }
 
     // A pair's own port: A of H1 and H2, B of H3 and H4.

@@ -56,13 +56,12 @@ impl Parallel {
         match pair {
             Pair::H12 => {
                 self.h12.level2 = level;
-                self
             }
             Pair::H34 => {
                 self.h34.level2 = level;
-                self
             }
         }
+        self
     }
 
     // A level comes to H1 or H3. Each pair has an arm of its own, so that the compiler keeps the edge apart from a level that is none

@@ -8,11 +8,9 @@ impl Parallel {
     pub fn write_pgcr(mut self, v: u8) -> Parallel
         ensures { λ r. ⌜ r ≡ writePgcr self v ⌝ }
     {
-        let one = self.h12.pgcr_written(Pair::H12, self.pgcr, v);
-        let two = self.h34.pgcr_written(Pair::H34, self.pgcr, v);
+        self.h12 = self.h12.pgcr_written(Pair::H12, self.pgcr, v);
+        self.h34 = self.h34.pgcr_written(Pair::H34, self.pgcr, v);
         self.pgcr = v;
-        self.h12 = one;
-        self.h34 = two;
         self
     }
 
@@ -44,10 +42,8 @@ impl Parallel {
     pub fn write_psr(mut self, v: u8) -> Parallel
         ensures { λ r. ⌜ r ≡ writePsr self v ⌝ }
     {
-        let one = self.h12.flags_cleared(bits::bit(v, 0), bits::bit(v, 1));
-        let two = self.h34.flags_cleared(bits::bit(v, 2), bits::bit(v, 3));
-        self.h12 = one;
-        self.h34 = two;
+        self.h12 = self.h12.flags_cleared(bits::bit(v, 0), bits::bit(v, 1));
+        self.h34 = self.h34.flags_cleared(bits::bit(v, 2), bits::bit(v, 3));
         self
     }
 }

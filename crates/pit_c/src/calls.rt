@@ -76,8 +76,7 @@ fn read_data(device: &mut [u8], pair: Pair) -> u32
     ensures device { λ _. ⌜ now (device .exit) ≡ bytesBeside (now (device .entry)) (readData (parallelOf (now (device .entry))) pair .parallel) ⌝ }
 {
     let got = parallel_of(device).read(pair);
-    let after = got.parallel;
-    put_parallel(after, device);
+    put_parallel(got.parallel, device);
     got.byte as u32
 }
 
@@ -180,8 +179,7 @@ pub extern "C" fn pit_pin(device: &mut [u8], pin: u8, level: u8) -> u32
         map::H4 => second_pin(device, Pair::H34, level != 0),
         _ => {
             let stepped = device_of(device).pin(pin, level != 0);
-            let after = stepped.device;
-            put_device(after, device);
+            put_device(stepped.device, device);
             stepped.opened as u32
         }
     }

@@ -10,8 +10,7 @@ impl Link {
         ensures { λ r. ⌜ r ≡ clockedLink self rules ⌝ }
     {
         let handshake = rules.handshake;
-        let strobe = self.strobe.clocked(handshake);
-        self.strobe = strobe;
+        self.strobe = self.strobe.clocked(handshake);
         self
     }
 
@@ -20,8 +19,7 @@ impl Link {
         ensures { λ r. ⌜ r ≡ clocksOf n self rules ⌝ }
     {
         let handshake = rules.handshake;
-        let strobe = self.strobe.clocks(handshake, n);
-        self.strobe = strobe;
+        self.strobe = self.strobe.clocks(handshake, n);
         self
     }
 }

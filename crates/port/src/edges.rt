@@ -33,8 +33,7 @@ impl Link {
     {
         let way = rules.way;
         if rules.accepts(self.held, self.strobe.asserted) {
-            let held = moved_count(way, self.held);
-            self.held = held;
+            self.held = moved_count(way, self.held);
             return self.restarted(rules);
         }
         if rules.enabled & direct(way) {

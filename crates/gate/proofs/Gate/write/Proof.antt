@@ -9,6 +9,18 @@ returns-6 : tie.Need-returns-6
 unfolding gateWritten
 returns-6 c =
     simp (
+      ne-eqb _ _ (c .before .match .rest .0 .0 .0 .0 .1),
+      ne-eqb _ _ (c .before .match .rest .0 .0 .0 .1),
+      ne-eqb _ _ (c .before .match .rest .0 .0 .1),
+      ne-eqb _ _ (c .before .match .rest .0 .1),
+      ne-eqb _ _ (c .before .match .rest .1),
+      lt-leb _ _ (c .if1 .taken),
+    )
+
+returns-7 : tie.Need-returns-7
+unfolding gateWritten
+returns-7 c =
+    simp (
       ne-eqb _ _ (c .before .before .before .match .rest .0 .0 .0 .0 .1),
       ne-eqb _ _ (c .before .before .before .match .rest .0 .0 .0 .1),
       ne-eqb _ _ (c .before .before .before .match .rest .0 .0 .1),
@@ -17,18 +29,6 @@ returns-6 c =
       le-leb _ _ (c .before .before .if1 .left),
       lt-ltb _ _ (c .before .if2 .taken),
       sym (c .write-preload .ensures),
-    )
-
-returns-7 : tie.Need-returns-7
-unfolding gateWritten
-returns-7 c =
-    simp (
-      ne-eqb _ _ (c .before .match .rest .0 .0 .0 .0 .1),
-      ne-eqb _ _ (c .before .match .rest .0 .0 .0 .1),
-      ne-eqb _ _ (c .before .match .rest .0 .0 .1),
-      ne-eqb _ _ (c .before .match .rest .0 .1),
-      ne-eqb _ _ (c .before .match .rest .1),
-      lt-leb _ _ (c .if1 .taken),
     )
 
 returns-8 : tie.Need-returns-8

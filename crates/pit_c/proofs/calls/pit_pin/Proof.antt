@@ -39,7 +39,7 @@ returns-6 : tie.Need-returns-6
 unfolding pinAnswer pinCall
 returns-6 c =
     let at-put-device = c .before .before .before in
-    let at-pin = at-put-device .before .before .before in
+    let at-pin = at-put-device .before .before in
     let at-device-of = at-pin .before in
     let long = eq-eqb _ _ (at-device-of .before .before .before .if1 .left) in (
       rw (at-pin .pin .ensures, at-device-of .device-of .ensures, long),

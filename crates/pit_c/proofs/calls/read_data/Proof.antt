@@ -6,7 +6,7 @@ use Rattle.pit_c.proofs.calls.read_data.Tie as tie
 returns : tie.Need-returns
 returns c =
     let at-put = c .before .before .before in
-    let at-read = at-put .before .before .before in
+    let at-read = at-put .before .before in
     let read = at-read .read .ensures in
     let of = at-read .before .parallel-of .ensures in
     (rw (read, of), rw (at-put .put-parallel .ensures, read, of))

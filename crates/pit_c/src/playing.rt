@@ -48,7 +48,6 @@ pub extern "C" fn pit_play(
     if outcome.refusal != 0 {
         return outcome.refusal as u32;
     }
-    let after = outcome.device;
-    put_device(after, device);
+    put_device(outcome.device, device);
     0
 }

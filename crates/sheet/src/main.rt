@@ -7,17 +7,12 @@ use event::Answer;
 use libc::STDIN_FILENO;
 use libc::STDOUT_FILENO;
 
-// The part on the bench, and how many clocks it has had.
-struct Bench {
-    device: Device,
-    clocks: u64,
-}
-
 fn text(words: &[u8]) {
     io::write_all(STDOUT_FILENO, words);
 }
 
-fn number(n: u64) {
+fn number(label: &[u8], n: u64) {
+    text(label);
     io::print_decimal(STDOUT_FILENO, n);
 }
 
@@ -25,12 +20,8 @@ fn hex(n: u8) {
     io::print_hex(STDOUT_FILENO, n as u64, 2);
 }
 
-fn level(on: bool) {
-    if on {
-        text(b"1");
-    } else {
-        text(b"0");
-    }
+fn end_line() {
+    text(b"\n");
 }
 
 fn answer(a: Answer) {
@@ -46,6 +37,15 @@ fn shown(d: Device, register: u8) -> u8 {
     got.byte
 }
 
+fn handshake_title(n: u8) {
+    match n {
+        6 => text(b"2.1.2 (4) interlocked input\n"),
+        7 => text(b"2.1.2 (5) pulsed input\n"),
+        8 => text(b"2.1.3 (4) interlocked output\n"),
+        _ => text(b"2.1.3 (5) pulsed output\n"),
+    }
+}
+
 fn title(n: u8) {
     match n {
         0 => text(b"5.2.1 periodic interrupt\n"),
@@ -54,41 +54,32 @@ fn title(n: u8) {
         3 => text(b"5.2.4.1 elapsed time, system clock\n"),
         4 => text(b"5.2.4.2 elapsed time, external clock\n"),
         5 => text(b"5.2.5 device watchdog\n"),
-        6 => text(b"2.1.2 (4) interlocked input\n"),
-        7 => text(b"2.1.2 (5) pulsed input\n"),
-        8 => text(b"2.1.3 (4) interlocked output\n"),
-        _ => text(b"2.1.3 (5) pulsed output\n"),
+        _ => handshake_title(n),
     }
 }
 
 // What the timer shows: TOUT, ZDS, the counter and what an acknowledge would answer.
 fn show_timer(d: Device, clocks: u64) {
-    text(b"  after ");
-    number(clocks);
-    text(b": TOUT ");
-    level(d.level(19));
-    text(b" ZDS ");
-    number(shown(d, 26) as u64);
+    number(b"  after ", clocks);
+    number(b": TOUT ", d.level(19) as u64);
+    number(b" ZDS ", shown(d, 26) as u64);
     text(b" count ");
     hex(shown(d, 23));
     hex(shown(d, 24));
     hex(shown(d, 25));
     text(b" acknowledge ");
     answer(d.timer_acknowledge());
-    text(b"\n");
+    end_line();
 }
 
 // What port A shows: H2, H1S and its pins.
 fn show_port(d: Device, clocks: u64) {
-    text(b"  after ");
-    number(clocks);
-    text(b": H2 ");
-    level(d.level(25));
-    text(b" H1S ");
-    number((shown(d, 13) % 2) as u64);
+    number(b"  after ", clocks);
+    number(b": H2 ", d.level(25) as u64);
+    number(b" H1S ", (shown(d, 13) % 2) as u64);
     text(b" pins ");
     hex(shown(d, 10));
-    text(b"\n");
+    end_line();
 }
 
 fn pin(d: Device, number: u8, level: bool) -> Device {
@@ -99,21 +90,18 @@ fn pin(d: Device, number: u8, level: bool) -> Device {
 // A read, with its byte printed.
 fn read(d: Device, register: u8) -> Device {
     let got = d.read(register);
-    text(b"  register ");
-    number(register as u64);
+    number(b"  register ", register as u64);
     text(b" reads ");
     hex(got.byte);
-    text(b"\n");
+    end_line();
     got.device
 }
 
 // The eight outside levels of port A.
 fn levels(device: Device, v: u8) -> Device {
     let mut d = device;
-    let mut i: u8 = 0;
-    while i < 8 {
+    for i in 0..8 {
         d = pin(d, i, bits::bit(v, i));
-        i += 1;
     }
     d
 }
@@ -121,118 +109,99 @@ fn levels(device: Device, v: u8) -> Device {
 // So many rises of a pin.
 fn rises(device: Device, number: u8, n: u8) -> Device {
     let mut d = device;
-    let mut left = n;
-    while 0 < left {
-        d = pin(pin(d, number, false), number, true);
-        left -= 1;
+    for _ in 0..n {
+        d = pin(d, number, false);
+        d = pin(d, number, true);
     }
     d
 }
 
-fn opens(clock: u64) {
-    text(b"  opens at ");
-    number(clock);
-    text(b"\n");
-}
-
 // One clock, with a line where it opens the gate.
-fn clock(b: Bench) -> Bench {
-    let stepped = b.device.clock();
-    let device = stepped.device;
-    let clocks = b.clocks % 4294967296 + 1;
+fn clock(d: Device, at: u64) -> Device {
+    let stepped = d.clock();
     if stepped.opened {
-        opens(clocks);
+        number(b"  opens at ", at);
+        end_line();
     }
-    Bench {
-        device: device,
-        clocks: clocks,
+    stepped.device
+}
+
+// The clocks after one number, up to another, one at a time.
+fn clocks(device: Device, before: u64, after: u64) -> Device {
+    let mut d = device;
+    for passed in before..after {
+        d = clock(d, passed + 1);
+    }
+    d
+}
+
+// How many clocks the part has had after a step.
+fn clocks_after(before: u64, what: u8, x: u8, y: u8) -> u64 {
+    match what {
+        b'=' => 0,
+        b'C' => before % 4294967296 + x as u64 * 256 + y as u64,
+        _ => before,
     }
 }
 
-fn clocks(bench: Bench, high: u8, low: u8) -> Bench {
-    let mut b = bench;
-    let mut left = high as u32 * 256 + low as u32;
-    while 0 < left {
-        b = clock(b);
-        left -= 1;
-    }
-    b
-}
-
-fn with_device(b: Bench, d: Device) -> Bench {
-    Bench {
-        device: d,
-        clocks: b.clocks,
-    }
-}
-
-fn fresh() -> Bench {
-    let d = Device::fresh();
-    Bench {
-        device: d,
-        clocks: 0,
-    }
-}
-
-// One step: what it does and two numbers for it.
-fn step(b: Bench, what: u8, x: u8, y: u8) -> Bench {
-    let d = b.device;
+// One step: what it does and two numbers for it. The part has had so many clocks before it and after it.
+fn step(d: Device, before: u64, after: u64, what: u8, x: u8, y: u8) -> Device {
     match what {
         b'=' => {
             title(x);
-            fresh()
+            Device::fresh()
         }
-        b'W' => with_device(b, d.write(x, y)),
-        b'R' => with_device(b, read(d, x)),
-        b'P' => with_device(b, pin(d, x, y == 1)),
-        b'S' => with_device(b, pin(pin(d, 24, false), 24, true)),
-        b'L' => with_device(b, levels(d, x)),
-        b'U' => with_device(b, rises(d, x, y)),
-        b'C' => clocks(b, x, y),
+        b'W' => d.write(x, y),
+        b'R' => read(d, x),
+        b'P' => pin(d, x, y == 1),
+        b'S' => rises(d, 24, 1),
+        b'L' => levels(d, x),
+        b'U' => rises(d, x, y),
+        b'C' => clocks(d, before, after),
         b'T' => {
-            show_timer(d, b.clocks);
-            b
+            show_timer(d, before);
+            d
         }
         _ => {
-            show_port(d, b.clocks);
-            b
+            show_port(d, before);
+            d
         }
     }
 }
 
-// The number below 16 that a digit spells.
+// The number below 16 that a digit spells: a letter counts on from 9.
 fn value(digit: u8) -> u8 {
-    if digit < b'A' {
-        return digit % 16;
-    }
-    digit % 16 + 9
+    digit % 16 + digit / 64 * 9
 }
 
-// The number that two digits spell.
-fn number_of(high: u8, low: u8) -> u8 {
-    value(high) % 16 * 16 + value(low) % 16
+// The next byte of standard input, 0 after its end.
+fn byte() -> u8 {
+    let mut one = [0u8; 1];
+    io::read_full(STDIN_FILENO, &mut one);
+    one[0]
 }
 
-// The steps, eight bytes each: a letter, a blank, two digits, a blank, two digits and the line's end.
-fn play(text: &[u8]) {
-    let mut b = fresh();
-    let mut i: usize = 0;
-    while i < text.len() {
-        if text.len() - i < 8 {
+// The number that a blank and two digits spell.
+fn number_read() -> u8 {
+    byte();
+    let high = value(byte()) % 16;
+    high * 16 + value(byte()) % 16
+}
+
+// The steps, 512 at most, a line each: a letter, a blank, two digits, a blank and two digits.
+fn main() {
+    let mut d = Device::fresh();
+    let mut clocks: u64 = 0;
+    for _ in 0..512u32 {
+        let what = byte();
+        if what == 0 {
             return;
         }
-        b = step(
-            b,
-            text[i],
-            number_of(text[i + 2], text[i + 3]),
-            number_of(text[i + 5], text[i + 6]),
-        );
-        i += 8;
+        let x = number_read();
+        let y = number_read();
+        byte();
+        let after = clocks_after(clocks, what, x, y);
+        d = step(d, clocks, after, what, x, y);
+        clocks = after;
     }
-}
-
-fn main() {
-    let mut text = [0u8; 4096];
-    let n = io::read_full(STDIN_FILENO, &mut text);
-    play(&text[..n]);
 }

@@ -5,31 +5,23 @@ use libc::STDOUT_FILENO;
 
 // One answer: two digits, or -- where the part does not respond.
 fn answer(responds: u8, byte: u8) {
+    let mut high = b'-';
+    let mut low = b'-';
     if responds == 1 {
-        let line = [
-            b'A',
-            b' ',
-            report::digit(byte / 16),
-            report::digit(byte),
-            b'\n',
-        ];
-        io::write_all(STDOUT_FILENO, &line);
-    } else {
-        io::write_all(STDOUT_FILENO, b"A --\n");
+        high = report::digit(byte / 16);
+        low = report::digit(byte);
     }
+    let line = [b'A', b' ', high, low, b'\n'];
+    io::write_all(STDOUT_FILENO, &line);
 }
 
-fn answers(bytes: &[u8], used: usize) {
-    let mut i = 0;
-    while i < bytes.len() {
-        if used <= i {
+fn answers(bytes: &[u8; 32768], used: usize) {
+    for i in 0..16384 {
+        let at = i * 2;
+        if used <= at {
             return;
         }
-        if bytes.len() - i < 2 {
-            return;
-        }
-        answer(bytes[i], bytes[i + 1]);
-        i += 2;
+        answer(bytes[at], bytes[at + 1]);
     }
 }
 

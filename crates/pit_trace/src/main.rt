@@ -7,40 +7,32 @@ use libc::STDOUT_FILENO;
 use timer::ClockNumber;
 use wire::Next;
 
-// The part so far: the device, and how many events and clocks there were.
-struct Bench {
-    device: Device,
-    events: u64,
-    clocks: u64,
-}
-
 fn level_digits(digits: &[u8; 28]) {
+    io::write_all(STDOUT_FILENO, b" PINS=");
     io::write_all(STDOUT_FILENO, digits);
 }
 
 fn pins(d: Device) {
     let mut digits = [b'0'; 28];
-    let mut i: usize = 0;
-    while i < 28 {
+    for i in 0..28 {
         if d.level(i as u8) {
             digits[i] = b'1';
         }
-        i += 1;
     }
     level_digits(&digits);
 }
 
 // What a read of each register would give, each from the device as it stands.
 fn registers(d: Device) {
-    let mut i: u8 = 0;
-    while i < 32 {
-        let got = d.read(i);
+    io::write_all(STDOUT_FILENO, b" REGS=");
+    for register in 0..32 {
+        let got = d.read(register);
         report::hex(got.byte);
-        i += 1;
     }
 }
 
-fn answer(a: Answer) {
+fn answer(label: &[u8], a: Answer) {
+    io::write_all(STDOUT_FILENO, label);
     match a {
         Answer::Vector(v) => report::hex(v),
         Answer::Silent => {
@@ -49,31 +41,17 @@ fn answer(a: Answer) {
     }
 }
 
-fn show(b: Bench) {
-    let d = b.device;
+// The part after so many events and clocks.
+fn show(d: Device, events: u64, clocks: u64) {
     io::write_all(STDOUT_FILENO, b"T ");
-    io::print_decimal(STDOUT_FILENO, b.events);
+    io::print_decimal(STDOUT_FILENO, events);
     io::write_all(STDOUT_FILENO, b" ");
-    io::print_decimal(STDOUT_FILENO, b.clocks);
-    io::write_all(STDOUT_FILENO, b" PINS=");
+    io::print_decimal(STDOUT_FILENO, clocks);
     pins(d);
-    io::write_all(STDOUT_FILENO, b" REGS=");
     registers(d);
-    io::write_all(STDOUT_FILENO, b" PACK=");
-    answer(d.port_acknowledge());
-    io::write_all(STDOUT_FILENO, b" TACK=");
-    answer(d.timer_acknowledge());
+    answer(b" PACK=", d.port_acknowledge());
+    answer(b" TACK=", d.timer_acknowledge());
     io::write_all(STDOUT_FILENO, b"\n");
-}
-
-fn read(d: Device, register: u8) -> Device {
-    let got = d.read(register);
-    got.device
-}
-
-fn pinned(d: Device, pin: u8, level: bool) -> Device {
-    let stepped = d.pin(pin, level);
-    stepped.device
 }
 
 fn clocked(d: Device, n: u32) -> Device {
@@ -85,46 +63,40 @@ fn clocked(d: Device, n: u32) -> Device {
 fn happened(d: Device, event: Event) -> Device {
     match event {
         Event::Write(register, value) => d.write(register, value),
-        Event::Read(register) => read(d, register),
-        Event::PortAcknowledge => d,
-        Event::TimerAcknowledge => d,
-        Event::Pin(pin, level) => pinned(d, pin, level),
+        Event::Read(register) => {
+            let got = d.read(register);
+            got.device
+        }
+        Event::PortAcknowledge | Event::TimerAcknowledge => d,
+        Event::Pin(pin, level) => {
+            let stepped = d.pin(pin, level);
+            stepped.device
+        }
         Event::Clocks(n) => clocked(d, n),
         Event::Reset => d.reset(),
     }
 }
 
 fn clocks_in(event: Event) -> u32 {
-    match event {
-        Event::Write(_, _) => 0,
-        Event::Read(_) => 0,
-        Event::PortAcknowledge => 0,
-        Event::TimerAcknowledge => 0,
-        Event::Pin(_, _) => 0,
-        Event::Clocks(n) => n,
-        Event::Reset => 0,
-    }
+    let Event::Clocks(n) = event else {
+        return 0;
+    };
+    n
 }
 
 // A line after each event of a list.
 fn events(list: &[u8]) {
     let mut d = Device::fresh();
-    let mut number: u64 = 0;
     let mut clocks: u64 = 0;
     let mut at: usize = 0;
-    while number < 1000000 {
+    for number in 0..1000000 {
         let next = wire::next_event(list, at);
         let Next::Play(event, after) = next else {
             return;
         };
         d = happened(d, event);
         clocks = clocks % 4294967296 + clocks_in(event) as u64;
-        show(Bench {
-            device: d,
-            events: number,
-            clocks: clocks,
-        });
-        number += 1;
+        show(d, number, clocks);
         at = after;
     }
 }

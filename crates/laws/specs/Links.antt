@@ -2,6 +2,7 @@
 -- 'Mode 0'), by trying every pair there can be.
 use mathlib.Core.Path.{_≡_, refl, sym, ap, subst, _∙_}
 use mathlib.Core.Bool.{Bool, true, false, not, _&&_, _||_, Bool·beq, true≢false, false≢true}
+use mathlib.Core.List.{List, [], _∷_}
 use mathlib.Core.Logic.{_↔_}
 use Prim.Native.Nat.{ℕ, zero, suc, _<_, _≤_}
 use native.Mathlib.Omega.{arith}
@@ -283,16 +284,64 @@ from-sound f l rules t h =
     (shapes .any (fits f l rules) t x ((tt, (tt, tt)), (omega arith, (wait-small (rules .way) (l .strobe .wait) (r .wait), (omega arith, (tt, (tt, tt)))))))
     h
 
-abbrev keeps : (Link → Rules → Link) → Link → Rules → Bool
-keeps step l r = tried (λ k s. soundOf (step k s) s) l r
+-- a pair whose edge flags are cleared by a write of PSR
+abbrev cleared : Link → Rules → Bool × Bool → Bool
+cleared l r x = soundOf (flagsClearedOf l (x .0) (x .1)) r
 
-kept : (step : Link → Rules → Link) (l : Link) (rules : Rules) → keeps step l rules ≡ true → soundOf l rules ≡ true → soundOf (step l rules) rules ≡ true
-kept step l rules t h = from-sound (λ k s. soundOf (step k s) s) l rules t h
+-- the same rules with another H2 control
+abbrev under : Rules → Handshake → Rules
+under r h = record { way = r .way; handshake = h; enabled = r .enabled; a = r .a; b = r .b }
+
+-- a pair under another H2 control, which restarts H2 and clears H2S
+abbrev switched : Link → Rules → Handshake → Bool
+switched l r h = soundOf (restartedOf (withFlags l (l .flag1) false) (under r h)) (under r h)
+
+-- or keeps H2S, where the new control is 0XX if the old one was
+abbrev stayed : Link → Rules → Handshake → Bool
+stayed l r h = given (not (sensesOf (r .handshake)) || sensesOf h) (λ _. soundOf (restartedOf l (under r h)) (under r h))
+
+-- conditions that all hold, each by itself
+abbrev all : List Bool → Bool
+all [] = true
+all (b ∷ bs) = b && all bs
+
+abbrev Each : List Bool → Type 0
+Each [] = Unit {0}
+Each (b ∷ bs) = (b ≡ true) × Each bs
+
+each : (bs : List Bool) → all bs ≡ true → Each bs
+each [] h = tt
+each (b ∷ bs) h = (and-left b (all bs) h, each bs (and-right b (all bs) h))
+
+-- what holds of every sound pair, as conditions tried at once: most shapes are not sound, and that is found out once
+all-kept : (f : Link → Rules → List Bool) (l : Link) (rules : Rules) → tried (λ k s. all (f k s)) l rules ≡ true → soundOf l rules ≡ true → Each (f l rules)
+all-kept f l rules t h = each (f l rules) (from-sound (λ k s. all (f k s)) l rules t h)
+
+-- a pair is sound after a clock and after asserted edges
+abbrev passes : Link → Rules → List Bool
+passes l r = soundOf (clockedLink l r) r ∷ soundOf (firstEdge l r) r ∷ soundOf (secondEdge l r) r ∷ []
+
+passed : (l : Link) (rules : Rules) → soundOf l rules ≡ true → Each (passes l rules)
+unfolding soundOf rangesOf allowedOf strobedOf lockedOf movableOf clockedStrobe firstEdge movedCount storedCount takenCount secondEdge restartedOf
+passed l rules = all-kept passes l rules refl
+
+-- and after data reads and writes, writes of PSR and another H2 control
+abbrev accesses : Link → Rules → List Bool
+accesses l r =
+    soundOf (readOf l r) r
+    ∷ soundOf (writtenOf l r) r
+    ∷ (anyBool and anyBool) .every (cleared l r)
+    ∷ handshakes (switched l r)
+    ∷ handshakes (stayed l r)
+    ∷ []
+
+accessed : (l : Link) (rules : Rules) → soundOf l rules ≡ true → Each (accesses l rules)
+unfolding soundOf rangesOf allowedOf strobedOf lockedOf movableOf readCount removedCount writtenCount filledCount countedOf restartedOf
+accessed l rules = all-kept accesses l rules refl
 
 -- A sound pair stays sound through one clock.
 pub clock-kept : (l : Link) (rules : Rules) → soundOf l rules ≡ true → soundOf (clockedLink l rules) rules ≡ true
-unfolding soundOf rangesOf allowedOf strobedOf lockedOf movableOf clockedStrobe
-clock-kept l rules = kept clockedLink l rules refl
+clock-kept l rules h = passed l rules h .0
 
 -- A sound pair stays sound through n clocks.
 pub clocks-kept : (n : ℕ) (l : Link) (rules : Rules) → soundOf l rules ≡ true → soundOf (clocksOf n l rules) rules ≡ true
@@ -302,32 +351,23 @@ clocks-kept (suc n) l rules h = clocks-kept n (clockedLink l rules) rules (clock
 
 -- A sound pair stays sound through an asserted H1 edge.
 pub first-edge-kept : (l : Link) (rules : Rules) → soundOf l rules ≡ true → soundOf (firstEdge l rules) rules ≡ true
-unfolding soundOf rangesOf allowedOf strobedOf lockedOf movableOf firstEdge movedCount storedCount takenCount restartedOf
-first-edge-kept l rules = kept firstEdge l rules refl
+first-edge-kept l rules h = passed l rules h .1 .0
 
 -- A sound pair stays sound through an asserted H2 edge.
 pub second-edge-kept : (l : Link) (rules : Rules) → soundOf l rules ≡ true → soundOf (secondEdge l rules) rules ≡ true
-unfolding soundOf rangesOf allowedOf strobedOf lockedOf movableOf secondEdge
-second-edge-kept l rules = kept secondEdge l rules refl
+second-edge-kept l rules h = passed l rules h .1 .1 .0
 
 -- A sound pair stays sound through a data read.
 pub read-kept : (l : Link) (rules : Rules) → soundOf l rules ≡ true → soundOf (readOf l rules) rules ≡ true
-unfolding soundOf rangesOf allowedOf strobedOf lockedOf movableOf readCount removedCount countedOf restartedOf
-read-kept l rules = kept readOf l rules refl
+read-kept l rules h = accessed l rules h .0
 
 -- A sound pair stays sound through a data write.
 pub written-kept : (l : Link) (rules : Rules) → soundOf l rules ≡ true → soundOf (writtenOf l rules) rules ≡ true
-unfolding soundOf rangesOf allowedOf strobedOf lockedOf movableOf writtenCount filledCount countedOf restartedOf
-written-kept l rules = kept writtenOf l rules refl
+written-kept l rules h = accessed l rules h .1 .0
 
 -- A sound pair stays sound through a write of PSR, whichever edge flags it clears.
 pub flags-kept : (one two : Bool) (l : Link) (rules : Rules) → soundOf l rules ≡ true → soundOf (flagsClearedOf l one two) rules ≡ true
-unfolding soundOf rangesOf allowedOf strobedOf lockedOf movableOf
-flags-kept one two l rules h =
-    (anyBool and anyBool) .any (λ x. soundOf (flagsClearedOf l (x .0) (x .1)) rules)
-    (from-sound (λ k s. (anyBool and anyBool) .every (λ x. soundOf (flagsClearedOf k (x .0) (x .1)) s)) l rules refl h)
-    (one, two)
-    (tt, tt)
+flags-kept one two l rules h = (anyBool and anyBool) .any (cleared l rules) (accessed l rules h .1 .1 .0) (one, two) (tt, tt)
 
 -- a pair that a change of mode, submode or enable has emptied is sound, whatever it was
 flushed-sound : (l : Link) (rules : Rules) → soundOf (flushedOf l rules) rules ≡ true
@@ -337,27 +377,16 @@ flushed-sound l rules =
     (rules .way, (rules .handshake, rules .enabled))
     (tt, (tt, tt))
 
--- the same rules with another H2 control
-abbrev under : Rules → Handshake → Rules
-under r h = record { way = r .way; handshake = h; enabled = r .enabled; a = r .a; b = r .b }
-
--- another H2 control restarts H2 and clears H2S: a sound pair is then sound under the new control
+-- a sound pair is sound under another H2 control, with H2 restarted and H2S cleared
 switched-sound : (h : Handshake) (l : Link) (rules : Rules) → soundOf l rules ≡ true → soundOf (restartedOf (withFlags l (l .flag1) false) (under rules h)) (under rules h) ≡ true
-unfolding soundOf rangesOf allowedOf strobedOf lockedOf movableOf restartedOf
-switched-sound h l rules s =
-    any-handshake (λ k. soundOf (restartedOf (withFlags l (l .flag1) false) (under rules k)) (under rules k))
-    (from-sound (λ q r. handshakes (λ k. soundOf (restartedOf (withFlags q (q .flag1) false) (under r k)) (under r k))) l rules refl s)
-    h
+switched-sound h l rules s = any-handshake (switched l rules) (accessed l rules s .1 .1 .1 .0) h
 
 -- and so it is with H2S kept, where the new control is 0XX if the old one was
 stayed-sound : (h : Handshake) (l : Link) (rules : Rules) → soundOf l rules ≡ true → (not (sensesOf (rules .handshake)) || sensesOf h) ≡ true
     → soundOf (restartedOf l (under rules h)) (under rules h) ≡ true
-unfolding soundOf rangesOf allowedOf strobedOf lockedOf movableOf restartedOf
 stayed-sound h l rules s stays =
     give (not (sensesOf (rules .handshake)) || sensesOf h) (λ _. soundOf (restartedOf l (under rules h)) (under rules h))
-    (any-handshake (λ k. given (not (sensesOf (rules .handshake)) || sensesOf k) (λ _. soundOf (restartedOf l (under rules k)) (under rules k)))
-    (from-sound (λ q r. handshakes (λ k. given (not (sensesOf (r .handshake)) || sensesOf k) (λ _. soundOf (restartedOf q (under r k)) (under r k)))) l rules refl s)
-    h)
+    (any-handshake (stayed l rules) (accessed l rules s .1 .1 .1 .1 .0) h)
     stays
 
 -- refusal 8 reads a pair's control register by its rules alone

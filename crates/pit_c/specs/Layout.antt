@@ -20,7 +20,7 @@ size = 52
 abbrev pub flagByte : Bool → ℕ
 flagByte on = boolByte on
 
--- the bytes of a device, one by one
+-- the bytes of a device, one by one, as the array that the code makes of them
 abbrev pub rowOf : Device → List ℕ
 rowOf d =
     d .parallel .pgcr
@@ -77,7 +77,7 @@ rowOf d =
     ∷ flagByte (d .parallel .h34 .level2)
     ∷ []
 
--- the bytes of a device
+-- the same under a name that everything else goes by, and that is not spelled out there
 unfoldable pub bytesOf : Device → List ℕ
 bytesOf d = rowOf d
 
@@ -97,7 +97,7 @@ numberOf b0 b1 b2 b3 = b0 + b1 * 0x100 + b2 * 0x10000 + b3 * 0x1000000
 abbrev pub numberAt : List ℕ → ℕ → ℕ
 numberAt l i = numberOf (byteAt l i) (byteAt l (i + 1)) (byteAt l (i + 2)) (byteAt l (i + 3))
 
--- where a port's bytes begin, and its pair's among them; the outside levels of its lines, and those of its pair's pins
+-- a port whose bytes, with its pair's among them, begin at one place, and whose lines' outside levels stand at another
 abbrev pub portAt : List ℕ → ℕ → ℕ → Port
 portAt l at outside = record {
   direction = byteAt l at;
@@ -111,6 +111,7 @@ portAt l at outside = record {
   outside = byteAt l outside;
 }
 
+-- its pair, whose pins' outside levels stand at a place of their own
 abbrev pub linkAt : List ℕ → ℕ → ℕ → Link
 linkAt l at levels = record {
   control = byteAt l (at + 1);

@@ -15,7 +15,7 @@ use timer::Timer;
 ghost use Prim.Native.Nat.{_+_, _≤_, _<_};
 ghost use mathlib.Core.Path.{_≡_};
 ghost use lib.ListN.{length};
-ghost use Rattle.pit_c.specs.Layout.{size, sideSize, numberOf, rowOf, bytesOf, portAt, linkAt, parallelWith, parallelOf, gateWith, gateOf};
+ghost use Rattle.pit_c.specs.Layout.{size, sideSize, numberOf, numberAt, rowOf, bytesOf, portAt, linkAt, parallelWith, parallelOf, gateWith, gateOf};
 ghost use Rattle.pit_c.specs.Layout.{deviceOf, bytesBeside};
 
 // How many bytes a device takes.
@@ -26,6 +26,15 @@ pub(crate) fn number_of(b0: u8, b1: u8, b2: u8, b3: u8) -> u32
     ensures { λ r. ⌜ r ≡ numberOf b0 b1 b2 b3 ⌝ }
 {
     (b0 as u32) + (b1 as u32) * 0x100 + (b2 as u32) * 0x10000 + (b3 as u32) * 0x1000000
+}
+
+// The number of the four bytes from a place on.
+fn number_at(l: &[u8], at: usize) -> u32
+    requires { ⌜ length (now l) ≡ size ⌝ }
+    requires { ⌜ at + 3 < size ⌝ }
+    ensures { λ r. ⌜ r ≡ numberAt (now (l .entry)) at ⌝ }
+{
+    number_of(l[at], l[at + 1], l[at + 2], l[at + 3])
 }
 
 // The bytes of a device.
@@ -190,8 +199,8 @@ pub(crate) fn gate_of(l: &[u8]) -> Gate
     requires { ⌜ length (now l) ≡ size ⌝ }
     ensures { λ r. ⌜ r ≡ gateOf (now (l .entry)) ⌝ }
 {
-    let preload = number_of(l[33], l[34], l[35], l[36]);
-    let count = number_of(l[37], l[38], l[39], l[40]);
+    let preload = number_at(l, 33);
+    let count = number_at(l, 37);
     gate_with(l, preload, count)
 }
 

@@ -9,6 +9,5 @@ unfolding gateOf
 gate-of-spec =
     tie.close
     (tie.spec
-    (λ c. search needs) (λ c. search needs) (λ c. search needs) (λ c. search needs) (λ c κs. search needs) (λ c. search needs) (λ c. search needs)
-    (λ c. search needs) (λ c. search needs) (λ c κs. search needs) (λ c κs. search needs)
-    (λ c. simp (c .gate-with .ensures, c .before .number-of2 .ensures, c .before .before .before .before .before .before .number-of .ensures)))
+    (λ c κs. search needs) (λ c κs. search needs) (λ c κs. search needs)
+    (λ c. simp (c .gate-with .ensures, c .before .number-at2 .ensures, c .before .before .number-at .ensures)))

@@ -1,7 +1,8 @@
 // The worked examples of the data sheet (000, 5.2.1 to 5.2.5) and its handshake sequences (000, 2.1.2 and 2.1.3), played on the
 // device one clock at a time. What each line should say was worked out by hand from the paper. The steps come from standard input, a
-// letter and two hexadecimal numbers each: = begins an example on a fresh device, W writes a register, R reads one, P sets a pin, S
-// strobes H1, L sets port A's outside levels, U makes rises of a pin, C passes clocks, T shows the timer, H port A with its handshake.
+// letter and two hexadecimal numbers each: = begins an example on a fresh device, and has its title behind, W writes a register, R reads
+// one, P sets a pin, S strobes H1, L sets port A's outside levels, U makes rises of a pin, C passes clocks, T shows the timer, H port A
+// with its handshake.
 use device::Device;
 use event::Answer;
 use libc::STDIN_FILENO;
@@ -35,27 +36,6 @@ fn answer(a: Answer) {
 fn shown(d: Device, register: u8) -> u8 {
     let got = d.read(register);
     got.byte
-}
-
-fn handshake_title(n: u8) {
-    match n {
-        6 => text(b"2.1.2 (4) interlocked input\n"),
-        7 => text(b"2.1.2 (5) pulsed input\n"),
-        8 => text(b"2.1.3 (4) interlocked output\n"),
-        _ => text(b"2.1.3 (5) pulsed output\n"),
-    }
-}
-
-fn title(n: u8) {
-    match n {
-        0 => text(b"5.2.1 periodic interrupt\n"),
-        1 => text(b"5.2.2 square wave\n"),
-        2 => text(b"5.2.3 interrupt after timeout\n"),
-        3 => text(b"5.2.4.1 elapsed time, system clock\n"),
-        4 => text(b"5.2.4.2 elapsed time, external clock\n"),
-        5 => text(b"5.2.5 device watchdog\n"),
-        _ => handshake_title(n),
-    }
 }
 
 // What the timer shows: TOUT, ZDS, the counter and what an acknowledge would answer.
@@ -144,11 +124,24 @@ fn clocks_after(before: u64, what: u8, x: u8, y: u8) -> u64 {
     }
 }
 
+// An example's title: the rest of its line.
+fn title() {
+    for _ in 0..64u32 {
+        let one = byte();
+        if one < b' ' {
+            end_line();
+            return;
+        }
+        let letter = [one];
+        text(&letter);
+    }
+}
+
 // One step: what it does and two numbers for it. The part has had so many clocks before it and after it.
 fn step(d: Device, before: u64, after: u64, what: u8, x: u8, y: u8) -> Device {
     match what {
         b'=' => {
-            title(x);
+            title();
             Device::fresh()
         }
         b'W' => d.write(x, y),

@@ -300,28 +300,28 @@ switched l r h = soundOf (restartedOf (withFlags l (l .flag1) false) (under r h)
 abbrev stayed : Link → Rules → Handshake → Bool
 stayed l r h = given (not (sensesOf (r .handshake)) || sensesOf h) (λ _. soundOf (restartedOf l (under r h)) (under r h))
 
--- conditions that all hold, each by itself
-abbrev all : List Bool → Bool
-all [] = true
-all (b ∷ bs) = b && all bs
+-- conditions that all hold, tried as one and then each by itself
+abbrev allTrue : List Bool → Bool
+allTrue [] = true
+allTrue (b ∷ bs) = b && allTrue bs
 
-abbrev Each : List Bool → Type 0
-Each [] = Unit {0}
-Each (b ∷ bs) = (b ≡ true) × Each bs
+abbrev AllTrue : List Bool → Type 0
+AllTrue [] = Unit {0}
+AllTrue (b ∷ bs) = (b ≡ true) × AllTrue bs
 
-each : (bs : List Bool) → all bs ≡ true → Each bs
-each [] h = tt
-each (b ∷ bs) h = (and-left b (all bs) h, each bs (and-right b (all bs) h))
+all-true : (bs : List Bool) → allTrue bs ≡ true → AllTrue bs
+all-true [] h = tt
+all-true (b ∷ bs) h = (and-left b (allTrue bs) h, all-true bs (and-right b (allTrue bs) h))
 
 -- what holds of every sound pair, as conditions tried at once: most shapes are not sound, and that is found out once
-all-kept : (f : Link → Rules → List Bool) (l : Link) (rules : Rules) → tried (λ k s. all (f k s)) l rules ≡ true → soundOf l rules ≡ true → Each (f l rules)
-all-kept f l rules t h = each (f l rules) (from-sound (λ k s. all (f k s)) l rules t h)
+all-kept : (f : Link → Rules → List Bool) (l : Link) (rules : Rules) → tried (λ k s. allTrue (f k s)) l rules ≡ true → soundOf l rules ≡ true → AllTrue (f l rules)
+all-kept f l rules t h = all-true (f l rules) (from-sound (λ k s. allTrue (f k s)) l rules t h)
 
 -- a pair is sound after a clock and after asserted edges
 abbrev passes : Link → Rules → List Bool
 passes l r = soundOf (clockedLink l r) r ∷ soundOf (firstEdge l r) r ∷ soundOf (secondEdge l r) r ∷ []
 
-passed : (l : Link) (rules : Rules) → soundOf l rules ≡ true → Each (passes l rules)
+passed : (l : Link) (rules : Rules) → soundOf l rules ≡ true → AllTrue (passes l rules)
 unfolding soundOf rangesOf allowedOf strobedOf lockedOf movableOf clockedStrobe firstEdge movedCount storedCount takenCount secondEdge restartedOf
 passed l rules = all-kept passes l rules refl
 
@@ -335,7 +335,7 @@ accesses l r =
     ∷ handshakes (stayed l r)
     ∷ []
 
-accessed : (l : Link) (rules : Rules) → soundOf l rules ≡ true → Each (accesses l rules)
+accessed : (l : Link) (rules : Rules) → soundOf l rules ≡ true → AllTrue (accesses l rules)
 unfolding soundOf rangesOf allowedOf strobedOf lockedOf movableOf readCount removedCount writtenCount filledCount countedOf restartedOf
 accessed l rules = all-kept accesses l rules refl
 

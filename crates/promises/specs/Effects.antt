@@ -26,6 +26,10 @@ pub record Folds (s : List ℕ) (d : Device) (bytes row : List ℕ) (x : Result)
   pub openings : length (made d 0 es .openings) ≤ length row
   pub result : x ≡ acceptance d bytes row (made d 0 es)
 
+-- the numbers that a call stored in the row
+abbrev pub stored : Result → List ℕ
+stored x = take (x .outcome .openings) (x .openings)
+
 -- past what x used, its bytes and its row are those that were lent
 pub record RestsKept (lentAnswers lentOpenings : List ℕ) (x : Result) : Type 0 where
   pub bytes : drop (x .outcome .answers) (x .answers) ≡ drop (x .outcome .answers) lentAnswers
@@ -66,7 +70,7 @@ module _ (s : List ℕ) (d : Device) (answers openings : List ℕ) where
 pub record Same (x y : Result) : Type 0 where
   pub outcome : x .outcome ≡ y .outcome
   pub answers : take (x .outcome .answers) (x .answers) ≡ take (y .outcome .answers) (y .answers)
-  pub openings : take (x .outcome .openings) (x .openings) ≡ take (y .outcome .openings) (y .openings)
+  pub openings : stored x ≡ stored y
 
 -- Nothing depends on what the lent bytes and row held, nor on how much more than is needed was lent.
 pub room-is-all-that-counts : (s : List ℕ) (d : Device) (answers openings bytes row : List ℕ) → playOf s d answers openings .outcome .refusal ≡ 0

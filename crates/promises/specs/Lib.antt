@@ -8,6 +8,7 @@ pub mod Undisturbed
 pub mod Formula
 pub mod Starting
 pub mod NeverOpens
+pub mod Calls
 pub mod Again
 pub mod Lists
 pub mod Examples

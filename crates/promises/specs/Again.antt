@@ -15,7 +15,7 @@ use Rattle.promises.specs.Refusals.{refusal-8}
 use Rattle.promises.specs.Effects.{accepted-is-the-fold}
 
 -- a value that a list writes is a byte
-byte : (e : Event) → wellFormed e → Byte e
+pub byte : (e : Event) → wellFormed e → Byte e
 byte (Write r v) formed = formed .1
 byte (Read r) formed = tt
 byte PortAcknowledge formed = tt

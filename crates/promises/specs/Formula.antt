@@ -6,7 +6,7 @@ use mathlib.Core.Path.{_≡_, refl, _∙_}
 use lib.ListN.{getD, length}
 use Rattle.event.specs.declared.Event.{Event}
 use Rattle.port_c.specs.Pins.{tinLevel}
-use Rattle.timer.specs.Control.{rollsOf, clockSteps}
+use Rattle.timer.specs.Control.{rollsOf, runsOf, clockSteps}
 use Rattle.timer.specs.Counting.{full}
 use Rattle.clocks.specs.Periods.{multiples, Loading, enters, openings-are, openings-count, when-it-opens}
 use Rattle.device.specs.Events.{made}
@@ -14,10 +14,22 @@ use Rattle.device.specs.declared.Device.{Device}
 use Rattle.wire.specs.Needs.{needsOf}
 use Rattle.promises.specs.Undisturbed.{Undisturbed, Follows, clocks-alone, high-runs}
 
--- the timer has just entered run, with source 00, or 01 and TIN high, and with reload: prescaler 31, a load due
+-- the timer is halted: not enabled, or with source 01 and TIN low
+abbrev pub Halted : Device → Type 0
+Halted d = runsOf (d .gate .timer .tcr) (tinLevel (d .gate .c)) ≡ false
+
+-- it runs on CLK through the prescaler: with source 00, or 01 and TIN high
+abbrev pub RunsOnClk : Device → Type 0
+RunsOnClk d = clockSteps (d .gate .timer .tcr) (tinLevel (d .gate .c)) ≡ true
+
+-- it reloads after zero
+abbrev pub Reloads : Device → Type 0
+Reloads d = rollsOf (d .gate .timer .tcr) ≡ false
+
+-- the timer has just entered run on CLK with reload: prescaler 31, a load due
 pub record Starts (d : Device) : Type 0 where
-  pub runs : clockSteps (d .gate .timer .tcr) (tinLevel (d .gate .c)) ≡ true
-  pub reload : rollsOf (d .gate .timer .tcr) ≡ false
+  pub runs : RunsOnClk d
+  pub reload : Reloads d
   pub full : d .gate .timer .phase .prescaler .0 ≡ full
   pub due : d .gate .timer .phase .due ≡ true
 

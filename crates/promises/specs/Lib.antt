@@ -6,6 +6,7 @@ pub mod Openings
 pub mod GateAlone
 pub mod Undisturbed
 pub mod Formula
+pub mod Kinds
 pub mod Starting
 pub mod NeverOpens
 pub mod Calls

@@ -102,6 +102,10 @@ tin-quiet t old new h =
     simp (runs, ne-eqb (sourceOf (t .tcr)) 2 (λ e. omega arith), ne-eqb (sourceOf (t .tcr)) 3 (λ e. omega arith))
     (branch (λ (c : Counted). c ≡ quiet t) (old || not new) _ _ (λ _. refl) (λ _. refl))
 
+pub tin-still : (g : Gate) (level : Bool) → clockSteps (g .timer .tcr) level ≡ true → (tinEvent g level .gate .timer ≡ g .timer) × (tinEvent g level .opened ≡ false)
+unfolding tinEvent
+tin-still g level h = rw (tin-quiet (g .timer) (tinLevel (g .c)) level h) (refl, refl)
+
 -- the gate's timer counts as t does, and runs on CLK with TIN at its level
 pub record Follows (t : Timer) (g : Gate) : Type 0 where
   pub alike : Alike (g .timer) t
@@ -129,15 +133,13 @@ module _ (t : Timer) (g : Gate) (f : Follows t g) where
   FollowsQuietly x = Follows t (x .gate) × (x .opened ≡ false)
 
   pin-follows : (n : ℕ) (level : Bool) → Undisturbing (t .tcr) (Pin n level) → FollowsQuietly (gatePinned g n level)
-  unfolding tinEvent
   pin-follows n level u =
       any-gate-pin FollowsQuietly g n level
       (λ x a. (same-follows x a, refl))
       (λ e.
-      let tin = tinLevel (g .c) in
-      let runs = level-runs (g .timer .tcr) tin level (f .runs) (λ s. u (ap (λ (x : Timer). sourceOf (x .tcr)) (sym (f .alike)) ∙ s) e) in
-      let still = tin-quiet (g .timer) tin level runs in
-      (record { alike = rw still (f .alike); runs = rw (tin-level g level, still) runs }, rw still))
+      let runs = level-runs (g .timer .tcr) (tinLevel (g .c)) level (f .runs) (λ s. u (ap (λ (x : Timer). sourceOf (x .tcr)) (sym (f .alike)) ∙ s) e) in
+      let still = tin-still g level runs in
+      (record { alike = rw (still .0) (f .alike); runs = rw (tin-level g level, still .0) runs }, still .1))
 
   clocks-follow : (n : ℕ) → Follows (after true n t) (gateAfter n g)
   clocks-follow n =

@@ -1,25 +1,39 @@
 -- What the reader answers at a bit, exactly when: the rows of 01's tables as facts of the list there.
 use mathlib.Core.Path.{_≡_, refl, sym, ap, _∙_, subst}
 use mathlib.Core.List.{List}
+use mathlib.Core.Logic.{_↔_}
 use Prim.Native.Nat.{ℕ, zero, suc, _+_, _-_, _*_, _≤_, _<_}
 use native.Mathlib.Omega.{arith}
 use lib.ListN.{length}
-use lib.Dec.{ltb}
+use lib.Dec.{ltb, eqb}
 use borrow.Author.Tests.{ltb-true, ltb-false, lt-ltb, le-ltb}
 use Rattle.bits.specs.Choice.{branch}
 use Rattle.wire.specs.Field.{bitsIn, bitAt, fieldAt, field-lt, field-zero-bits, bits-zero-field, field-set-bit, bit-set-field}
-use Rattle.wire.specs.Next.{mostBytes, lastPin, mostClocks, kindBits, registerBits, valueBits, clocksBits, kindAt, pinAt, sizeOf}
+use Rattle.wire.specs.Splitting.{one-bit}
+use Rattle.wire.specs.Next.{mostBytes, lastPin, mostClocks, kindBits, registerBits, valueBits, pinBits, clocksBits, kindAt, registerAt, valueAt, pinAt, levelAt, clocksAt, sizeOf}
 use Rattle.wire.specs.Next.{bytesTo, fillAt, closeAt, pinOrRefusal, eventAt, nextAt, bitsOf, too-long, cut-short, all-there}
 use Rattle.wire.specs.Needs.{clocksIn}
 use Rattle.wire.specs.WellFormed.{wellFormed, three-bits, few-clocks, paced}
 use Rattle.event.specs.declared.Event.{Event}
-use Rattle.event.specs.declared.Event.the-variants.{PortAcknowledge, TimerAcknowledge, Reset}
+use Rattle.event.specs.declared.Event.the-variants.{Write, Read, PortAcknowledge, TimerAcknowledge, Pin, Clocks, Reset}
 use Rattle.wire.specs.declared.next.Next.{Next}
 use Rattle.wire.specs.declared.next.Next.the-variants.{Play, End, Refused}
+
+-- 01's table of kinds: the bits from bit at on spell event e, its kind first and then its fields, most significant bit first.
+-- Kind 7, the end, is EndMark below
+abbrev pub Spelled : List ℕ → ℕ → Event → Type 0
+Spelled s at (Write r v) = (kindAt s at ≡ 0) × (r ≡ registerAt s at) × (v ≡ valueAt s at)
+Spelled s at (Read r) = (kindAt s at ≡ 1) × (r ≡ registerAt s at)
+Spelled s at PortAcknowledge = kindAt s at ≡ 2
+Spelled s at TimerAcknowledge = kindAt s at ≡ 3
+Spelled s at (Pin n level) = (kindAt s at ≡ 4) × (n ≡ pinAt s at) × (n ≤ lastPin) × (level ≡ eqb (bitAt s (at + kindBits + pinBits)) 1)
+Spelled s at (Clocks n) = (kindAt s at ≡ 5) × (n ≡ clocksAt s at)
+Spelled s at Reset = kindAt s at ≡ 6
 
 -- an event was read at bit at, and p is the first bit after it
 pub record Moves (s : List ℕ) (at : ℕ) (e : Event) (p : ℕ) : Type 0 where
   pub short : length s ≤ mostBytes
+  pub spelled : Spelled s at e
   pub after : p ≡ at + bitsOf e
   pub within : p ≤ bitsIn s
   pub formed : wellFormed e
@@ -84,6 +98,10 @@ Finds s at (Play e p) = Moves s at e p
 Finds s at End = Closes s at
 Finds s at (Refused r p) = Row s at r p
 
+-- the level is a bit
+level-bit : (s : List ℕ) (at : ℕ) → levelAt s at ≡ eqb (bitAt s (at + kindBits + pinBits)) 1
+level-bit s at = ap (λ (x : ℕ). eqb x 1) (one-bit s (at + kindBits + pinBits))
+
 -- the fill as a number, and its bits
 module _ (s : List ℕ) (end : ℕ) where
   fill-zero : fillAt s end ≡ 0 → ZeroFill s end
@@ -100,10 +118,11 @@ module _ (s : List ℕ) (end : ℕ) where
       bit-set-field s end (bytesTo end * 8 - end) (i - end) (omega arith) (subst (λ (j : ℕ). bitAt s j ≡ 1) e one)
 
 module _ (s : List ℕ) (at : ℕ) (short : length s ≤ mostBytes) where
-  moved : (e : Event) → wellFormed e → at + bitsOf e ≤ bitsIn s → Moves s at e (at + bitsOf e)
-  moved e formed there =
+  moved : (e : Event) → Spelled s at e → wellFormed e → at + bitsOf e ≤ bitsIn s → Moves s at e (at + bitsOf e)
+  moved e spelled formed there =
       record {
         short = short;
+        spelled = spelled;
         after = refl;
         within = there;
         formed = formed;
@@ -117,7 +136,9 @@ module _ (s : List ℕ) (at : ℕ) (short : length s ≤ mostBytes) where
   pinned kind there =
       branch (Finds s at) (ltb lastPin (pinAt s at)) _ _
       (λ t. (record { short = short; kind = kind; within = there; pin = ltb-true _ _ t }, refl))
-      (λ t. moved _ (ltb-false _ _ t) there)
+      (λ t.
+      let listed : pinAt s at ≤ lastPin = ltb-false _ _ t in
+      moved (Pin (pinAt s at) (levelAt s at)) (kind, refl, listed, level-bit s at) listed there)
 
   closed : kindAt s at ≡ 7 → at + kindBits ≤ bitsIn s → Finds s at (closeAt s (at + kindBits))
   unfolding closeAt
@@ -138,15 +159,18 @@ module _ (s : List ℕ) (at : ℕ) (short : length s ≤ mostBytes) where
 
   by-kind : (k : ℕ) → kindAt s at ≡ k → at + sizeOf k ≤ bitsIn s → Finds s at (eventAt s at (at + sizeOf k) k)
   unfolding eventAt sizeOf
-  by-kind zero kind there = moved _ (field-lt s (at + kindBits) registerBits, field-lt s (at + kindBits + registerBits) valueBits) there
-  by-kind (suc zero) kind there = moved _ (field-lt s (at + kindBits) registerBits) there
-  by-kind (suc (suc zero)) kind there = moved PortAcknowledge tt there
-  by-kind (suc (suc (suc zero))) kind there = moved TimerAcknowledge tt there
+  by-kind zero kind there =
+      moved (Write (registerAt s at) (valueAt s at)) (kind, refl, refl)
+      (field-lt s (at + kindBits) registerBits, field-lt s (at + kindBits + registerBits) valueBits)
+      there
+  by-kind (suc zero) kind there = moved (Read (registerAt s at)) (kind, refl) (field-lt s (at + kindBits) registerBits) there
+  by-kind (suc (suc zero)) kind there = moved PortAcknowledge kind tt there
+  by-kind (suc (suc (suc zero))) kind there = moved TimerAcknowledge kind tt there
   by-kind (suc (suc (suc (suc zero)))) kind there = pinned kind there
   by-kind (suc (suc (suc (suc (suc zero))))) kind there =
       let f : fieldAt s (at + kindBits) clocksBits < mostClocks = field-lt s (at + kindBits) clocksBits in
-      moved _ (omega arith, omega arith) there
-  by-kind (suc (suc (suc (suc (suc (suc zero)))))) kind there = moved Reset tt there
+      moved (Clocks (clocksAt s at)) (kind, refl) (omega arith, omega arith) there
+  by-kind (suc (suc (suc (suc (suc (suc zero)))))) kind there = moved Reset kind tt there
   by-kind (suc (suc (suc (suc (suc (suc (suc zero))))))) kind there = closed kind there
   by-kind (suc (suc (suc (suc (suc (suc (suc (suc k)))))))) kind there =
       let below : kindAt s at < 8 = field-lt s at kindBits in
@@ -172,6 +196,19 @@ finds s at =
 module _ (s : List ℕ) (at : ℕ) where
   pub moves : (e : Event) (p : ℕ) → nextAt s at ≡ Play e p → Moves s at e p
   moves e p read = subst (Finds s at) read (finds s at)
+
+  -- bits that spell an event, all of it there, are read as that event
+  pub spelled-plays : (e : Event) → length s ≤ mostBytes → at + bitsOf e ≤ bitsIn s → Spelled s at e → nextAt s at ≡ Play e (at + bitsOf e)
+  unfolding eventAt pinOrRefusal
+  spelled-plays (Write r v) short there (kind, register, value) = of-kind s at short 0 kind there ∙ simp (register, value)
+  spelled-plays (Read r) short there (kind, register) = of-kind s at short 1 kind there ∙ simp (register)
+  spelled-plays PortAcknowledge short there kind = of-kind s at short 2 kind there
+  spelled-plays TimerAcknowledge short there kind = of-kind s at short 3 kind there
+  spelled-plays (Pin n level) short there (kind, pin, listed, high) =
+      let below : pinAt s at ≤ lastPin = subst (λ (x : ℕ). x ≤ lastPin) pin listed in
+      of-kind s at short 4 kind there ∙ simp (le-ltb lastPin (pinAt s at) below, pin, high, level-bit s at)
+  spelled-plays (Clocks n) short there (kind, clocks) = of-kind s at short 5 kind there ∙ simp (clocks)
+  spelled-plays Reset short there kind = of-kind s at short 6 kind there
 
   -- the end mark: what stands there is what follows it
   marked : EndMark s at → nextAt s at ≡ closeAt s (at + kindBits)
@@ -202,3 +239,13 @@ module _ (s : List ℕ) (at : ℕ) where
       let full : length s ≤ bytesTo (at + kindBits) = omega (arith, c .last) in
       marked (c .mark)
       ∙ simp (zero-fill s (at + kindBits) (c .fill), le-ltb (bytesTo (at + kindBits)) (length s) full)
+
+  -- Each answer of the reader, exactly when: an event where its bits stand, the end and each refusal where their rows say.
+  pub reads-exactly : (x : Next) → (nextAt s at ≡ x) ↔ Finds s at x
+  reads-exactly x = ((λ read. subst (Finds s at) read (finds s at)), found x) where
+    found : (x : Next) → Finds s at x → nextAt s at ≡ x
+    found (Play e p) m =
+        let there : at + bitsOf e ≤ bitsIn s = subst (λ (q : ℕ). q ≤ bitsIn s) (m .after) (m .within) in
+        spelled-plays e (m .short) there (m .spelled) ∙ ap (Play e) (sym (m .after))
+    found End c = closes-ends c
+    found (Refused r p) row = row-refuses r p row

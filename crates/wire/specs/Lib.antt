@@ -7,5 +7,6 @@ pub mod Needs
 pub mod WellFormed
 pub mod Finds
 pub mod Rest
+pub mod Spells
 pub mod Refusals
 pub mod Totals

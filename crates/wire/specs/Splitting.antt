@@ -5,7 +5,7 @@ use mathlib.Core.List.{List}
 use native.Mathlib.Nat.{add-zero, add-suc, add-assoc, mul-assoc, pow-suc}
 use native.Mathlib.Omega.{arith}
 use lib.Pow.{high, low}
-use Rattle.wire.specs.Field.{fieldAt, field-lt}
+use Rattle.wire.specs.Field.{bitAt, fieldAt, field-lt}
 
 module _ (s : List ℕ) (at a : ℕ) where
   pub split : (b : ℕ) → fieldAt s at (a + b) ≡ fieldAt s at a * 2 ^ b + fieldAt s (at + a) b
@@ -24,3 +24,12 @@ module _ (s : List ℕ) (at a : ℕ) where
 -- bits between are the last of the first
 pub inner-bits : (s : List ℕ) (at a b c : ℕ) → fieldAt s at (a + b + c) / 2 ^ c % 2 ^ b ≡ fieldAt s (at + a) b
 inner-bits s at a b c = ap (λ (x : ℕ). x % 2 ^ b) (first-bits s at (a + b) c) ∙ last-bits s at a b
+
+-- a field of one bit is that bit
+pub one-bit : (s : List ℕ) (at : ℕ) → fieldAt s at 1 ≡ bitAt s at
+unfolding fieldAt
+one-bit s at = rw (add-zero at) (omega arith)
+
+-- 'most significant first': of a field's bits the one with a before it and c after it is bit c of the number
+pub field-bit : (s : List ℕ) (at a c : ℕ) → fieldAt s at (a + 1 + c) / 2 ^ c % 2 ≡ bitAt s (at + a)
+field-bit s at a c = inner-bits s at a 1 c ∙ one-bit s (at + a)

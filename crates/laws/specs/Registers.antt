@@ -2,15 +2,16 @@
 use mathlib.Core.Path.{_≡_, refl}
 use mathlib.Core.Logic.{_⊎_, inl, inr}
 use mathlib.Core.Bool.{Bool, true, false, not, _&&_, _||_, Bool·beq, false≢true}
-use Prim.Native.Nat.{ℕ, _<_, _≤_}
+use Prim.Native.Nat.{ℕ, _+_, _<_, _≤_}
 use native.Mathlib.Omega.{arith}
-use lib.Dec.{eqb, ltb}
-use borrow.Author.Tests.{eq-eqb, ne-eqb, not-true}
+use lib.Dec.{eqb, ltb, leb}
+use lib.Bits.{bitAnd}
+use borrow.Author.Tests.{eq-eqb, ne-eqb, leb-true, not-true}
 use Rattle.bits.specs.Choice.{if_then_else_, branch, and-left, either}
 use Rattle.bits.specs.Field.{bitOf}
 use Rattle.bits.specs.Tables.{each}
 use Rattle.bits.specs.Trying.{anyBool, anyBelow, _and_}
-use Rattle.event.specs.Map.{PGCR, PSRR, PADR, PBDR, TCR, TSR}
+use Rattle.event.specs.Map.{PGCR, PSRR, PIVR, PADR, PBDR, PAAR, PBAR, PSR, TCR, TIVR, CPRH, CNTRH, TSR, numberBytes}
 use Rattle.port.specs.Control.{modeOf, submodeField, handshakeField, enabledOf, rulesOf}
 use Rattle.port.specs.Parts.{withControl, withStrobe}
 use Rattle.port.specs.Edges.{restartedOf, flushedOf}
@@ -20,12 +21,18 @@ use Rattle.port.specs.declared.Pair.the-variants.{H12, H34}
 use Rattle.port.specs.declared.Rules.{Rules}
 use Rattle.port.specs.declared.Strobe.{Strobe}
 use Rattle.port.specs.declared.Link.{Link}
+use Rattle.port_c.specs.Pins.{tinLevel}
+use Rattle.timer.specs.Control.{tcrBits, runsOf}
+use Rattle.timer.specs.Registers.{controlledOf}
+use Rattle.timer.specs.declared.Timer.{Timer}
+use Rattle.gate.specs.Registers.{writeTcr}
 use Rattle.parallel.specs.Parts.{linkOf, withLink}
 use Rattle.parallel.specs.Switching.{writePgcr, writePsrr, writePivr, writeControl, writePsr}
 use Rattle.parallel.specs.declared.Parallel.{Parallel}
-use Rattle.device.specs.Registers.{readOf, writes, writeOf}
+use Rattle.device.specs.Registers.{reads, readOf, writes, writeOf}
 use Rattle.device.specs.Validity.{validOf}
 use Rattle.device.specs.declared.Device.{Device}
+use Rattle.laws.specs.Reads.{other-reads}
 use Rattle.laws.specs.Stays.{valid-in}
 
 -- Unused bits read 0: PSRR bit 7 of a valid device.
@@ -45,6 +52,70 @@ tsr-unused d i l k =
     let zds = d .gate .timer .phase .zds in
     let tried = (anyBool and anyBelow 8) .any (λ x. eqb (x .1) 0 || not (bitOf (if x .0 then 1 else 0) (x .1))) refl (zds, i) (tt, k) in
     not-true _ (either (eqb i 0) _ tried (ne-eqb i 0 (λ e. omega (arith, e))))
+
+-- What is written to TCR, PSRR and PIVR reads back without the unused bits, and PIVR without its lower two.
+pub tcr-reads-back : (d : Device) (v : ℕ) → readOf (writeOf d TCR v) TCR .byte ≡ bitAnd v 0xf7
+unfolding readOf writeOf writeTcr controlledOf
+tcr-reads-back d v =
+    branch (λ (t : Timer). t .tcr ≡ bitAnd v 0xf7) (runsOf (bitAnd v tcrBits) (tinLevel (d .gate .c))) _ _ (λ _. refl) (λ _. refl)
+
+pub psrr-reads-back : (d : Device) (v : ℕ) → readOf (writeOf d PSRR v) PSRR .byte ≡ bitAnd v 0x7f
+unfolding readOf writeOf writePsrr
+psrr-reads-back d v = refl
+
+pub pivr-reads-back : (d : Device) (v : ℕ) → readOf (writeOf d PIVR v) PIVR .byte ≡ bitAnd v 0xfc
+unfolding readOf writeOf writePivr
+pivr-reads-back d v = refl
+
+-- 'All others': none of 0 PGCR to 13 PSR, 16 TCR, 17 TIVR, 19-21 preload, 23-25 count, 26 TSR.
+pub record Other (r : ℕ) : Type 0 where
+  pub past : PSR < r
+  pub tcr : r ≡ TCR → ⊥
+  pub tivr : r ≡ TIVR → ⊥
+  pub preload : CPRH ≤ r → r < CPRH + numberBytes → ⊥
+  pub count : CNTRH ≤ r → r < CNTRH + numberBytes → ⊥
+  pub tsr : r ≡ TSR → ⊥
+
+module _ (d : Device) (r : ℕ) (o : Other r) where
+  low : {A : Type 0} (n : ℕ) → leb n PSR ≡ true → r ≡ n → A
+  low n l e = let m = leb-true n PSR l in absurd (omega (arith, o .past))
+
+  -- All others read 0, and that read changes nothing.
+  pub others-read : (readOf d r .byte ≡ 0) × (readOf d r .device ≡ d)
+  unfolding readOf
+  others-read = (
+    each (λ (byte : ℕ). byte ≡ 0) (reads d) 0 r (λ _. refl)
+        (low 0 refl) (low 1 refl) (low 2 refl) (low 3 refl) (low 4 refl) (low 5 refl) (low 6 refl)
+        (low 7 refl) (low 8 refl) (low 9 refl) (low 10 refl) (low 11 refl) (low 12 refl) (low 13 refl)
+        (λ e. absurd (o .tcr e))
+        (λ e. absurd (o .tivr e))
+        (λ a b. absurd (o .preload a b))
+        (λ a b. absurd (o .count a b))
+        (λ e. absurd (o .tsr e)),
+    other-reads d r (low PADR refl) (low PBDR refl),
+  )
+
+  -- All others ignore writes.
+  pub others-ignore : (v : ℕ) → writeOf d r v ≡ d
+  unfolding writeOf
+  others-ignore v =
+      each (λ (x : Device). x ≡ d) (writes d v) d r (λ _. refl)
+      (low 0 refl) (low 1 refl) (low 2 refl) (low 3 refl) (low 4 refl) (low 5 refl) (low 6 refl)
+      (low 7 refl) (low 8 refl) (low 9 refl) (low 12 refl) (low 13 refl)
+      (λ e. absurd (o .tcr e))
+      (λ e. absurd (o .tivr e))
+      (λ a b. absurd (o .preload a b))
+      (λ e. absurd (o .tsr e))
+
+-- Alternates ignore writes.
+pub alternates-ignore : (d : Device) (v : ℕ) → (writeOf d PAAR v ≡ d) × (writeOf d PBAR v ≡ d)
+unfolding writeOf
+alternates-ignore d v = (refl, refl)
+
+-- Count registers, high, mid and low, ignore writes.
+pub counts-ignore : (d : Device) (v : ℕ) → (writeOf d CNTRH v ≡ d) × (writeOf d (CNTRH + 1) v ≡ d) × (writeOf d (CNTRH + 2) v ≡ d)
+unfolding writeOf
+counts-ignore d v = (refl, refl, refl)
 
 beq-self : (b : Bool) → Bool·beq b b ≡ true
 beq-self true = refl

@@ -1,12 +1,12 @@
 -- What a whole list says: the reader takes it for these events exactly when its bits spell them, one after the other, and then the end.
-use mathlib.Core.Path.{_≡_, refl, ap, _∙_, subst}
+use mathlib.Core.Path.{_≡_, ap, _∙_, subst}
 use mathlib.Core.List.{List, [], _∷_}
 use mathlib.Core.Logic.{_↔_}
 use Prim.Native.Nat.{ℕ, _+_, _≤_}
 use native.Mathlib.Omega.{arith}
 use lib.ListN.{length}
 use Rattle.wire.specs.Field.{bitsIn}
-use Rattle.wire.specs.Next.{mostBytes, kindBits, bitsOf, nextAt}
+use Rattle.wire.specs.Next.{mostBytes, kindBits, bitsOf}
 use Rattle.wire.specs.List.{Parsed, events, refused, prepend, rest, parsed}
 use Rattle.wire.specs.Finds.{Spelled, Closes, Finds, finds, moves, spelled-plays, closes-ends}
 use Rattle.wire.specs.Rest.{rest-reads, each-rest}

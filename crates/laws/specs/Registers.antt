@@ -13,7 +13,7 @@ use Rattle.bits.specs.Tables.{each}
 use Rattle.bits.specs.Trying.{anyBool, anyBelow, _and_}
 use Rattle.event.specs.Map.{PGCR, PSRR, PIVR, PADR, PBDR, PAAR, PBAR, PSR, TCR, TIVR, CPRH, CNTRH, TSR, numberBytes}
 use Rattle.port.specs.Control.{modeOf, submodeField, handshakeField, enabledOf, rulesOf}
-use Rattle.port.specs.Parts.{withControl, withStrobe}
+use Rattle.port.specs.Parts.{withControl, withStrobe, withFlags}
 use Rattle.port.specs.Edges.{restartedOf, flushedOf}
 use Rattle.port.specs.Switching.{pgcrWritten, controlWritten, flagsClearedOf}
 use Rattle.port.specs.declared.Pair.{Pair}
@@ -26,9 +26,11 @@ use Rattle.timer.specs.Control.{tcrBits, runsOf}
 use Rattle.timer.specs.Registers.{controlledOf}
 use Rattle.timer.specs.declared.Timer.{Timer}
 use Rattle.gate.specs.Registers.{writeTcr}
-use Rattle.parallel.specs.Parts.{linkOf, withLink}
+use Rattle.parallel.specs.Parts.{linkOf, withLink, withLinks}
+use Rattle.parallel.specs.Pins.{assertsOf, withFirst, withSecond, firstPin, secondPin}
 use Rattle.parallel.specs.Switching.{writePgcr, writePsrr, writePivr, writeControl, writePsr}
 use Rattle.parallel.specs.declared.Parallel.{Parallel}
+use Rattle.device.specs.Parts.{withParallel}
 use Rattle.device.specs.Registers.{reads, readOf, writes, writeOf}
 use Rattle.device.specs.Validity.{validOf}
 use Rattle.device.specs.declared.Device.{Device}
@@ -120,6 +122,21 @@ counts-ignore d v = (refl, refl, refl)
 beq-self : (b : Bool) → Bool·beq b b ≡ true
 beq-self true = refl
 beq-self false = refl
+
+-- Writing ones to PSR clears edge-set flags only: H1S to H4S by bits 0 to 3, and all else is as it was.
+pub psr-clears : (d : Device) (v : ℕ) → writeOf d PSR v
+    ≡ withParallel d
+    (withLinks (d .parallel)
+    (withFlags (d .parallel .h12) (d .parallel .h12 .flag1 && not (bitOf v 0)) (d .parallel .h12 .flag2 && not (bitOf v 1)))
+    (withFlags (d .parallel .h34) (d .parallel .h34 .flag1 && not (bitOf v 2)) (d .parallel .h34 .flag2 && not (bitOf v 3))))
+unfolding writeOf writePsr
+psr-clears d v = refl
+
+-- A level that a handshake pin has already makes no edge, and nothing else.
+pub same-level : (p : Parallel) (pair : Pair) → (firstPin p pair (linkOf p pair .level1) ≡ p) × (secondPin p pair (linkOf p pair .level2) ≡ p)
+unfolding firstPin secondPin withFirst withSecond assertsOf linkOf withLink
+same-level p H12 = (rw (beq-self (p .h12 .level1)) refl, rw (beq-self (p .h12 .level2)) refl)
+same-level p H34 = (rw (beq-self (p .h34 .level1)) refl, rw (beq-self (p .h34 .level2)) refl)
 
 -- the same mode field and enable bit leave a pair as it was
 same-mode : (l : Link) (pair : Pair) (old new : ℕ) → modeOf old ≡ modeOf new → enabledOf pair old ≡ enabledOf pair new → pgcrWritten l pair old new ≡ l

@@ -6,7 +6,7 @@
  *                                    a list in hex, `#` and a remark
  *
  * After every event of a well-formed list, played by the single calls, everything that can be seen of the
- * device must be equal; whole lists, well-formed and damaged, must be equal through pit_play, with what was
+ * device must be equal; so it must after single events on devices of any kind, refused ones among them; whole lists, well-formed and damaged, must be equal through pit_play, with what was
  * lent past the used part. Stops at the first difference with exit 1. */
 #include "generate.h"
 #include "hex.h"
@@ -47,6 +47,7 @@ static struct {
     uint64_t devices;
     uint64_t invalid_devices;
     uint64_t events;
+    uint64_t lone_events;
     uint64_t clocks;
     uint64_t openings;
     uint64_t plays;
@@ -296,9 +297,15 @@ static void same_view(const uint8_t *device, const struct model_device *model)
     same_levels(device, model);
     same_reads(device, model);
     same_acknowledges(device, model);
-    same_number("validity after an event", pit_valid(device, PIT_DEVICE_SIZE), 1);
-    same_number("validity of the model after an event", 1, model_valid(model));
+    same_number("validity after an event", pit_valid(device, PIT_DEVICE_SIZE), model_valid(model));
     same_device_bytes("after it was only looked at", device, before);
+}
+
+/* What a valid device is after an event is valid. */
+static void same_valid_view(const uint8_t *device, const struct model_device *model)
+{
+    same_view(device, model);
+    same_number("validity of a device that was valid", 1, model_valid(model));
 }
 
 /* ---- Single events ---- */
@@ -395,7 +402,7 @@ static void compare_events(const uint8_t *handed, const struct generate_list *li
         event_both(device, &model, &trial.event, passed);
         if (trial.event.kind != MODEL_PORT_ACKNOWLEDGE && trial.event.kind != MODEL_TIMER_ACKNOWLEDGE) {
             same_device("after the event", device, &model);
-            same_view(device, &model);
+            same_valid_view(device, &model);
         }
         passed += trial.event.clocks;
         position = after;
@@ -403,6 +410,110 @@ static void compare_events(const uint8_t *handed, const struct generate_list *li
     }
     counts.events += trial.event_number;
     counts.clocks += passed;
+    trial.event_number = NO_EVENT;
+}
+
+/* ---- Single events on devices of any kind ---- */
+
+/* A value for a register: any byte, or what it reads with one bit turned over. */
+static unsigned any_value(struct generate_random *random, const struct model_device *model, unsigned number)
+{
+    struct model_device copy = *model;
+
+    if (generate_below(random, 2) == 0) {
+        return generate_below(random, 256);
+    }
+    return model_read(&copy, number) ^ 1u << generate_below(random, 8);
+}
+
+static struct model_event any_event(struct generate_random *random, const struct model_device *model)
+{
+    struct model_event event = {0};
+
+    switch (generate_below(random, 16)) {
+    case 0:
+        event.kind = MODEL_RESET;
+        break;
+    case 1:
+    case 2:
+    case 3:
+        event.kind = MODEL_READ;
+        event.number = generate_below(random, 2) == 0 ? MODEL_DATA_A + generate_below(random, 2)
+                                                      : generate_below(random, MODEL_REGISTERS);
+        break;
+    case 4:
+    case 5:
+    case 6:
+    case 7:
+    case 8:
+        event.kind = MODEL_PIN;
+        event.number = generate_below(random, 4) == 0 ? generate_below(random, MODEL_PINS)
+                       : generate_below(random, 4) == 0 ? MODEL_PIN_TIN
+                                                        : MODEL_PIN_H1 + generate_below(random, 4);
+        event.value = generate_below(random, 2);
+        break;
+    case 9:
+    case 10:
+    case 11:
+        event.kind = MODEL_CLOCKS;
+        event.clocks = 1 + (generate_below(random, 2) == 0 ? generate_below(random, 8) : generate_below(random, 400));
+        break;
+    default:
+        event.kind = MODEL_WRITE;
+        event.number = generate_below(random, MODEL_REGISTERS);
+        event.value = any_value(random, model, event.number);
+        break;
+    }
+    return event;
+}
+
+/* A flag of a device that was handed in may be other than 0 and 1 until a call writes it: it is compared as it is
+ * read. */
+static void same_as_read(const char *when, const uint8_t *library, const struct model_device *model)
+{
+    struct model_device found = model_from_bytes(library);
+    uint8_t bytes[PIT_DEVICE_SIZE];
+
+    model_to_bytes(&found, bytes);
+    same_device(when, bytes, model);
+}
+
+/* Some bytes of a device at will, whatever field they belong to, and small numbers among them; at times all. */
+static void damage(struct generate_random *random, uint8_t *bytes)
+{
+    unsigned rounds = generate_below(random, 8) == 0 ? 4 * PIT_DEVICE_SIZE : 1 + generate_below(random, 8);
+
+    while (rounds-- > 0) {
+        uint32_t limit = generate_below(random, 2) == 0 ? 6 : 256;
+
+        bytes[generate_below(random, PIT_DEVICE_SIZE)] = (uint8_t)generate_below(random, limit);
+    }
+}
+
+#define LONE_EVENTS 6u
+
+/* Each event comes to the device as it was handed in. */
+static void compare_lone_events(struct generate_random *random, const uint8_t *handed)
+{
+    unsigned number;
+
+    trial.part = "an event on a device of any kind";
+    trial.device = handed;
+    trial.list = NULL;
+    for (number = 0; number < LONE_EVENTS; number++) {
+        struct model_device model = model_from_bytes(handed);
+        uint8_t device[PIT_DEVICE_SIZE];
+
+        memcpy(device, handed, PIT_DEVICE_SIZE);
+        trial.event = any_event(random, &model);
+        trial.event_number = number;
+        trial.event_place = 0;
+        event_both(device, &model, &trial.event, 0);
+        same_as_read("after the event", device, &model);
+        model_to_bytes(&model, device);
+        same_view(device, &model);
+    }
+    counts.lone_events += LONE_EVENTS;
     trial.event_number = NO_EVENT;
 }
 
@@ -553,6 +664,7 @@ static void compare_number(uint64_t seed, uint64_t number)
     static struct generate_list damaged;
     uint8_t device[PIT_DEVICE_SIZE];
     uint8_t other[PIT_DEVICE_SIZE];
+    uint8_t damaged_device[PIT_DEVICE_SIZE];
     struct generate_random random = generate_seeded(seed, number);
 
     trial.numbered = true;
@@ -572,6 +684,10 @@ static void compare_number(uint64_t seed, uint64_t number)
     compare_list(&random, "a damaged list", device, &damaged);
     generate_any_device(&random, other);
     compare_device(other);
+    compare_lone_events(&random, other);
+    memcpy(damaged_device, other, PIT_DEVICE_SIZE);
+    damage(&random, damaged_device);
+    compare_lone_events(&random, damaged_device);
     compare_list(&random, "a device of any kind", other, generate_below(&random, 2) == 0 ? &list : &damaged);
     counts.lists++;
 }
@@ -655,7 +771,7 @@ static void outlying_numbers(void)
     memset(device, 0x77, sizeof device);
     same_number("fresh", pit_fresh(device, PIT_DEVICE_SIZE), 0);
     same_device("fresh", device, &model);
-    same_view(device, &model);
+    same_valid_view(device, &model);
     for (number = 32; number < 256; number++) {
         same_number("write over 31", pit_write(device, PIT_DEVICE_SIZE, (uint8_t)number, 0xFF), 0);
         same_number("read over 31", pit_read(device, PIT_DEVICE_SIZE, (uint8_t)number), 0);
@@ -787,6 +903,8 @@ static void compare_given(const uint8_t *device, const struct generate_list *lis
 
     compare_device(device);
     trial.list = list;
+    compare_lone_events(&random, device);
+    trial.list = list;
     if (model_valid(&model)) {
         compare_events(device, list);
     }
@@ -840,9 +958,10 @@ static void print_summary(void)
     unsigned refusal;
 
     printf("no difference: %" PRIu64 " lists, %" PRIu64 " devices (%" PRIu64 " not valid), %" PRIu64
-           " single events, %" PRIu64 " clocks, %" PRIu64 " openings, %" PRIu64 " plays; refusals 0-%u:",
-           counts.lists, counts.devices, counts.invalid_devices, counts.events, counts.clocks, counts.openings,
-           counts.plays, last_refusal());
+           " single events, %" PRIu64 " more on devices of any kind, %" PRIu64 " clocks, %" PRIu64
+           " openings, %" PRIu64 " plays; refusals 0-%u:",
+           counts.lists, counts.devices, counts.invalid_devices, counts.events, counts.lone_events, counts.clocks,
+           counts.openings, counts.plays, last_refusal());
     for (refusal = 0; refusal <= last_refusal(); refusal++) {
         printf(" %" PRIu64, counts.refusals[refusal]);
     }

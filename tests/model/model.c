@@ -171,9 +171,15 @@ static bool h1_status(const struct model_device *device, unsigned which)
     }
 }
 
+/* 01, Mode 0: "H2S set by an asserted edge ... H2S is 0 unless 0XX." */
+static bool h2_status(const struct model_device *device, unsigned which)
+{
+    return (h2_role(device, which) == H2_STATUS_INPUT || MISREAD(72)) && device->port[which].h2_edge;
+}
+
 static bool status(const struct model_device *device, unsigned hand)
 {
-    return hand % 2 == 0 ? h1_status(device, hand / 2) : device->port[hand / 2].h2_edge;
+    return hand % 2 == 0 ? h1_status(device, hand / 2) : h2_status(device, hand / 2);
 }
 
 /* 01, Interrupts: "bits 6-5 = 10 takes H1S out of the interrupts, 11 H3S"; PACR bits 2 and 1 enable. */
@@ -241,7 +247,7 @@ MODEL_LINKAGE unsigned model_port_acknowledge(const struct model_device *device)
         return VECTOR_AT_RESET;
     }
     HIT("port acknowledge");
-    return device->pivr + hand;
+    return (device->pivr + hand) & 0xFFu; /* a vector is a byte */
 }
 
 /* 01, Timer: "Timer acknowledge responds, with TIVR, exactly when TCR 7-5 is 101 and ZDS is 1." */
@@ -422,19 +428,37 @@ static void accepted_edge(struct model_device *device, unsigned which)
     }
 }
 
-/* 01, read as: the clock that ends the wait begins the pulse and is not one of its four. */
+/* 01, Mode 0: under 110 H2 is asserted when the wait is over, under 111 it is pulsed for four clocks; elsewhere
+ * nothing is said of a wait's end. 01, read as: the clock that ends the wait begins the pulse and is not one of its
+ * four. */
+static void wait_ends(struct model_device *device, unsigned which)
+{
+    switch (h2_role(device, which)) {
+    case H2_INTERLOCKED:
+        HIT("a wait ends, interlocked");
+        device->port[which].asserted = true;
+        break;
+    case H2_PULSED:
+        HIT("a wait ends, pulsed");
+        device->port[which].pulse = PULSE_LENGTH;
+        break;
+    default:
+        HIT("a wait ends where no handshake is");
+        if (MISREAD(73)) {
+            device->port[which].pulse = PULSE_LENGTH;
+        }
+        break;
+    }
+}
+
 static void port_clock(struct model_device *device, unsigned which)
 {
     struct model_port *port = &device->port[which];
 
     if (port->wait > 0) {
         port->wait--;
-        if (port->wait == 0 && h2_role(device, which) == H2_INTERLOCKED) {
-            HIT("a wait ends, interlocked");
-            port->asserted = true;
-        } else if (port->wait == 0) {
-            HIT("a wait ends, pulsed");
-            port->pulse = PULSE_LENGTH;
+        if (port->wait == 0) {
+            wait_ends(device, which);
         }
     } else if (port->pulse > 0) {
         HIT("a pulse goes on");
@@ -464,13 +488,13 @@ static void empty_final(struct model_device *device, unsigned which)
 {
     struct model_port *port = &device->port[which];
 
-    if (port->held == 2) {
+    if (port->held > 1) {
         HIT("01 moves the initial latch up");
         port->final = port->initial;
     } else {
         HIT("01 is empty after the edge");
     }
-    port->held--;
+    port->held = MISREAD(74) && port->held > 1 ? 1 : port->held - 1;
 }
 
 /* An asserted edge of H1. 01, Mode 0: the three submodes; "Enable clear: nothing is held, edge flags are 0". */
@@ -488,7 +512,7 @@ static void h1_asserted_edge(struct model_device *device, unsigned which)
         port->h1_edge = true;
         return;
     }
-    if (kind == BUFFERED_INPUT && port->held == HELD_MOST && !MISREAD(19)) {
+    if (kind == BUFFERED_INPUT && port->held >= HELD_MOST && !MISREAD(19)) {
         HIT("H1 edge, no room");
         return;
     }
@@ -608,7 +632,7 @@ static bool source_step(struct model_device *device)
 }
 
 /* PC2's outside level changed. 01, Timer: the four sources; "A TIN edge counts at once." Read as: a fall
- * under source 01 halts at once, and after a rise the next clock is the first step. */
+ * under source 01 halts at once what ran, and after a rise the next clock is the first step. */
 static bool tin_changed(struct model_device *device, bool rising)
 {
     switch (timer_source(device)) {
@@ -616,9 +640,11 @@ static bool tin_changed(struct model_device *device, bool rising)
         HIT("PC2 changes, not TIN");
         return false;
     case SOURCE_GATED_CLOCK:
-        if (!rising && !MISREAD(25)) {
+        if (!rising && bit(device->tcr, 0) && !MISREAD(25)) {
             HIT("TIN falls under source 01");
             halt(device);
+        } else if (!rising) {
+            HIT("TIN falls under source 01, not enabled");
         } else {
             HIT("TIN rises under source 01");
             if (MISREAD(62) && timer_running(device)) {
@@ -681,6 +707,9 @@ MODEL_LINKAGE bool model_pin(struct model_device *device, unsigned pin, bool lev
         bool changed = ((*levels & mask) != 0) != level;
 
         *levels = (uint8_t)(level ? *levels | mask : *levels & ~mask);
+        if (MISREAD(75) && pin == MODEL_PIN_TIN && !timer_running(device)) {
+            halt(device);
+        }
         return changed && pin == MODEL_PIN_TIN ? tin_changed(device, level) : false;
     }
 }
@@ -713,8 +742,8 @@ static void disable_port(struct model_device *device, unsigned which)
     device->port[which].pulse = 0;
 }
 
-/* 01, read as: one write of PGCR is judged by its new value; a mode change concerns both ports, and setting
- * enable begins readiness (in 00, since 01 is empty). */
+/* 01, read as: one write of PGCR is judged by its new value; a mode change concerns both ports; a port whose enable
+ * bit is set begins with nothing held, and in 00 with a readiness; one whose mode and enable stay is not touched. */
 static void write_pgcr(struct model_device *device, uint8_t value)
 {
     uint8_t before = device->pgcr;
@@ -722,15 +751,15 @@ static void write_pgcr(struct model_device *device, uint8_t value)
 
     device->pgcr = value;
     for (which = 0; which < 2; which++) {
-        if (!enabled(device, which)) {
-            HIT("PGCR write, disabled");
-            disable_port(device, which);
-        } else if (before >> 6 != value >> 6 && !(MISREAD(64) && which == 1)) {
+        if (before >> 6 != value >> 6 && !(MISREAD(64) && which == 1)) {
             HIT("PGCR write changes the mode");
             empty_port(device, which);
-        } else if (!bit(before, 4 + which)) {
+        } else if ((bit(before, 4 + which) || MISREAD(76)) && !enabled(device, which)) {
+            HIT("PGCR write disables");
+            disable_port(device, which);
+        } else if (!bit(before, 4 + which) && enabled(device, which)) {
             HIT("PGCR write enables");
-            begin_wait(device, which);
+            empty_port(device, which);
         } else {
             HIT("PGCR write keeps mode and enable");
         }
@@ -750,8 +779,8 @@ static void write_control(struct model_device *device, unsigned which, uint8_t v
         empty_port(device, which);
     } else if (h2_control(before) != h2_control(value) || MISREAD(61)) {
         HIT("PACR write changes H2 control");
-        if ((h2_control(value) >= 4 && !MISREAD(16)) || MISREAD(59)) {
-            HIT("PACR write leaves 0XX");
+        if (((h2_control(before) >= 4 || h2_control(value) >= 4) && !MISREAD(16)) || MISREAD(59)) {
+            HIT("0XX does not stay at a PACR write");
             port->h2_edge = false;
         }
         restart_h2(device, which);
@@ -840,9 +869,10 @@ static void write_tcr(struct model_device *device, uint8_t value)
     }
 }
 
+/* 01, Registers: "19-21 preload high, mid, low": three bytes, and no more of it is left. */
 static void write_preload(struct model_device *device, unsigned shift, uint8_t value)
 {
-    device->preload = (device->preload & ~(0xFFu << shift)) | (uint32_t)value << shift;
+    device->preload = (device->preload & COUNT_MOST & ~(0xFFu << shift)) | (uint32_t)value << shift;
 }
 
 /* 01, Registers: the numbers; "All others read 0 and ignore writes ... Alternates ...; they and count

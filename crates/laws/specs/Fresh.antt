@@ -33,7 +33,7 @@ use Rattle.gate.specs.Parts.{withTimer, withC}
 use Rattle.parallel.specs.Clocking.{clockedParallel}
 use Rattle.parallel.specs.Data.{drawnBy, readData, sentBy, latchedBy, writeData}
 use Rattle.parallel.specs.Fresh.{freshParallel, resetOf as resetParallel}
-use Rattle.parallel.specs.Interrupts.{statusOf, statusesOf, enabledOf as interruptsOf, psrOf}
+use Rattle.parallel.specs.Interrupts.{firstStatusOf, secondStatusOf, statusesOf, enabledOf as interruptsOf, psrOf}
 use Rattle.parallel.specs.Parts.{linkOf, withLink, withPorts, withLinks, ownPort, rulesAt}
 use Rattle.parallel.specs.Pins.{pinsOf, assertsOf, firstEdge, secondEdge, withFirst, withSecond, firstPin, secondPin, secondLevel}
 use Rattle.parallel.specs.Switching.{writePgcr, writePsrr, writeControl, writePsr}
@@ -59,7 +59,7 @@ pub fresh-reads : (r : ℕ) → r < 32 → readOf freshDevice r .byte ≡ find f
 unfolding
     readOf freshDevice freshParallel freshPort freshLink freshGate freshC freshTimer bitOf fieldOf chosenOf packedOf byteOf sourceOf functionOf toutOf
     modeOf submodeField handshakeField wayOf handshakeOf enabledOf firstSense secondSense rulesOf oldestOf statusIn linkLevel linkOf withLink ownPort rulesAt
-    pinsOf readData drawnBy drawnOf statusOf statusesOf interruptsOf psrOf secondLevel dmaOf enabledIn plainPin tinPin toutPin dmareqPin pirqPin piackPin tiackPin shownOf
+    pinsOf readData drawnBy drawnOf firstStatusOf secondStatusOf statusesOf interruptsOf psrOf secondLevel dmaOf enabledIn plainPin tinPin toutPin dmareqPin pirqPin piackPin tiackPin shownOf
     dataOf pinsC
 fresh-reads r l = eqb-true _ _ (any-below 32 (λ r. eqb (readOf freshDevice r .byte) (find freshBytes 0 r)) refl r l)
 

@@ -11,10 +11,10 @@ use borrow.Author.Tests.{leb-true, le-leb, eqb-true, eq-eqb, ne-eqb, not-true, n
 use Rattle.bits.specs.Choice.{if_then_else_, branch, and-left, and-right, both, either, beq-true}
 use Rattle.bits.specs.Field.{bitOf, fieldOf}
 use Rattle.bits.specs.Trying.{given, give, Trial, anyBool, anyBelow, _and_}
-use Rattle.port.specs.Buffering.{places, storedCount, removedCount, filledCount, takenCount}
+use Rattle.port.specs.Buffering.{places, storedCount, removedCount, filledCount}
 use Rattle.port.specs.Moving.{movedCount}
 use Rattle.port.specs.Control.{modeOf, submodeField, handshakeField, wayOf, handshakeOf, enabledOf, rulesOf, directOf, sensesOf, locksOf, drivesOf}
-use Rattle.port.specs.Handshaking.{waitOf, longest, movableOf, readyOf, acceptsOf, clockedStrobe, strobeAfter}
+use Rattle.port.specs.Handshaking.{waitOf, longest, movableOf, readyOf, acceptsOf, readiedOf, clockedStrobe, strobeAfter}
 use Rattle.port.specs.Parts.{strobeWith, linkWith, withControl, withFlags, withLevels}
 use Rattle.port.specs.Edges.{restartedOf, flushedOf, firstEdge, secondEdge}
 use Rattle.port.specs.Data.{countedOf, readCount, writtenCount, readOf, writtenOf}
@@ -322,7 +322,7 @@ abbrev passes : Link → Rules → List Bool
 passes l r = soundOf (clockedLink l r) r ∷ soundOf (firstEdge l r) r ∷ soundOf (secondEdge l r) r ∷ []
 
 passed : (l : Link) (rules : Rules) → soundOf l rules ≡ true → AllTrue (passes l rules)
-unfolding soundOf rangesOf allowedOf strobedOf lockedOf movableOf clockedStrobe firstEdge movedCount storedCount takenCount secondEdge restartedOf
+unfolding soundOf rangesOf allowedOf strobedOf lockedOf movableOf clockedStrobe firstEdge movedCount storedCount removedCount secondEdge restartedOf
 passed l rules = all-kept passes l rules refl
 
 -- and after data reads and writes, writes of PSR and another H2 control
@@ -336,7 +336,7 @@ accesses l r =
     ∷ []
 
 accessed : (l : Link) (rules : Rules) → soundOf l rules ≡ true → AllTrue (accesses l rules)
-unfolding soundOf rangesOf allowedOf strobedOf lockedOf movableOf readCount removedCount writtenCount filledCount countedOf restartedOf
+unfolding soundOf rangesOf allowedOf strobedOf lockedOf movableOf readCount removedCount writtenCount filledCount countedOf readiedOf restartedOf
 accessed l rules = all-kept accesses l rules refl
 
 -- A sound pair stays sound through one clock.
@@ -490,7 +490,7 @@ second-edge-control l rules =
     branch (Controlled (l .control)) (rules .enabled && sensesOf (rules .handshake)) _ _ (λ _. record { same = refl }) (λ _. record { same = refl })
 
 pub counted-control : (l : Link) (rules : Rules) (n : ℕ) → Controlled (l .control) (countedOf l rules n)
-unfolding countedOf restartedOf
+unfolding countedOf
 counted-control l rules n =
     branch (Controlled (l .control)) (not (readyOf rules (l .held)) && readyOf rules n) _ _
     (λ _. record { same = refl })

@@ -10,7 +10,6 @@ use Rattle.event.specs.declared.Event.the-variants.{PortAcknowledge, TimerAckno
 use Rattle.port.specs.Control.{inputsOf, rulesOf}
 use Rattle.port.specs.Moving.{removedOf, drawnOf}
 use Rattle.port.specs.Handshaking.{readyOf}
-use Rattle.port.specs.Edges.{restartedOf}
 use Rattle.port.specs.Data.{countedOf, readCount, readOf as linkRead}
 use Rattle.port.specs.Parts.{withHeld, withStrobe, withCells as portCells}
 use Rattle.port.specs.declared.Link.{Link}
@@ -47,7 +46,7 @@ alternate-b-read d = refl
 
 -- a data read moves its pair's count and handshake alone
 read-moves : (l : Link) (rules : Rules) → linkRead l rules ≡ withStrobe (withHeld l (linkRead l rules .held)) (linkRead l rules .strobe)
-unfolding countedOf restartedOf
+unfolding countedOf
 read-moves l rules =
     let n = readCount (rules .way) (l .held) in
     branch (λ (x : Link). x ≡ withStrobe (withHeld l (x .held)) (x .strobe)) (not (readyOf rules (l .held)) && readyOf rules n) _ _ (λ _. refl) (λ _. refl)

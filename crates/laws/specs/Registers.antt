@@ -138,8 +138,8 @@ unfolding firstPin secondPin withFirst withSecond assertsOf linkOf withLink
 same-level p H12 = (rw (beq-self (p .h12 .level1)) refl, rw (beq-self (p .h12 .level2)) refl)
 same-level p H34 = (rw (beq-self (p .h34 .level1)) refl, rw (beq-self (p .h34 .level2)) refl)
 
--- the same mode field and enable bit leave a pair as it was
-same-mode : (l : Link) (pair : Pair) (old new : ℕ) → modeOf old ≡ modeOf new → enabledOf pair old ≡ enabledOf pair new → pgcrWritten l pair old new ≡ l
+-- A write of PGCR that leaves the mode field and a pair's enable bit leaves the pair, enabled or not, valid or not.
+pub same-mode : (l : Link) (pair : Pair) (old new : ℕ) → modeOf old ≡ modeOf new → enabledOf pair old ≡ enabledOf pair new → pgcrWritten l pair old new ≡ l
 unfolding pgcrWritten
 same-mode l pair old new e f = let x : eqb (modeOf old) (modeOf new) ≡ true = eq-eqb _ _ e in rw (x, f, beq-self)
 

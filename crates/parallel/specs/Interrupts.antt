@@ -6,7 +6,7 @@ use Rattle.event.specs.declared.Answer.{Answer}
 use Rattle.interrupt.specs.Enabling.{enabledIn}
 use Rattle.interrupt.specs.Answering.{acknowledgeOf}
 use Rattle.interrupt.specs.declared.Flags.{Flags}
-use Rattle.port.specs.Status.{firstStatus}
+use Rattle.port.specs.Status.{firstStatus, secondStatus}
 use Rattle.port.specs.declared.Pair.{Pair}
 use Rattle.port.specs.declared.Pair.the-variants.{H12, H34}
 use Rattle.parallel.specs.Parts.{linkOf, rulesAt}
@@ -14,12 +14,16 @@ use Rattle.parallel.specs.Pins.{secondLevel}
 use Rattle.parallel.specs.declared.Parallel.{Parallel}
 
 -- H1S or H3S
-unfoldable pub statusOf : Parallel → Pair → Bool
-statusOf p pair = firstStatus (linkOf p pair) (rulesAt p pair)
+unfoldable pub firstStatusOf : Parallel → Pair → Bool
+firstStatusOf p pair = firstStatus (linkOf p pair) (rulesAt p pair)
+
+-- H2S or H4S
+unfoldable pub secondStatusOf : Parallel → Pair → Bool
+secondStatusOf p pair = secondStatus (linkOf p pair) (rulesAt p pair)
 
 -- H1S to H4S
 unfoldable pub statusesOf : Parallel → Flags
-statusesOf p = record { h1 = statusOf p H12; h2 = p .h12 .flag2; h3 = statusOf p H34; h4 = p .h34 .flag2 }
+statusesOf p = record { h1 = firstStatusOf p H12; h2 = secondStatusOf p H12; h3 = firstStatusOf p H34; h4 = secondStatusOf p H34 }
 
 -- PSR bits 7-4 are the levels of H4-H1, bits 3-0 H4S-H1S
 unfoldable pub psrOf : Parallel → ℕ

@@ -6,15 +6,23 @@ use interrupt::answering::acknowledge;
 use port::Pair;
 ghost use mathlib.Core.Path.{_≡_};
 ghost use Rattle.interrupt.specs.Enabling.{anyOf};
-ghost use Rattle.parallel.specs.Interrupts.{statusOf, statusesOf, psrOf, enabledOf, portAcknowledge};
+ghost use Rattle.parallel.specs.Interrupts.{firstStatusOf, secondStatusOf, statusesOf, psrOf, enabledOf, portAcknowledge};
 
 impl Parallel {
     // H1S or H3S.
-    fn status(self, pair: Pair) -> bool
-        ensures { λ r. ⌜ r ≡ statusOf self pair ⌝ }
+    fn first_status(self, pair: Pair) -> bool
+        ensures { λ r. ⌜ r ≡ firstStatusOf self pair ⌝ }
     {
         let link = self.link(pair);
         link.first_status(self.rules(pair))
+    }
+
+    // H2S or H4S.
+    fn second_status(self, pair: Pair) -> bool
+        ensures { λ r. ⌜ r ≡ secondStatusOf self pair ⌝ }
+    {
+        let link = self.link(pair);
+        link.second_status(self.rules(pair))
     }
 
     // H1S to H4S.
@@ -22,10 +30,10 @@ impl Parallel {
         ensures { λ r. ⌜ r ≡ statusesOf self ⌝ }
     {
         Flags {
-            h1: self.status(Pair::H12),
-            h2: self.h12.flag2,
-            h3: self.status(Pair::H34),
-            h4: self.h34.flag2,
+            h1: self.first_status(Pair::H12),
+            h2: self.second_status(Pair::H12),
+            h3: self.first_status(Pair::H34),
+            h4: self.second_status(Pair::H34),
         }
     }
 

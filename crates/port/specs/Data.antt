@@ -2,10 +2,9 @@
 use Prim.Native.Nat.{ℕ}
 use mathlib.Core.Bool.{Bool, true, false, not, _&&_}
 use Rattle.bits.specs.Choice.{if_then_else_}
-use Rattle.port.specs.Parts.{withHeld}
+use Rattle.port.specs.Parts.{withHeld, withStrobe}
 use Rattle.port.specs.Buffering.{removedCount, filledCount}
-use Rattle.port.specs.Handshaking.{readyOf}
-use Rattle.port.specs.Edges.{restartedOf}
+use Rattle.port.specs.Handshaking.{readyOf, readiedOf}
 use Rattle.port.specs.declared.Way.{Way}
 use Rattle.port.specs.declared.Way.the-variants.{Input, Output, Direct}
 use Rattle.port.specs.declared.Rules.{Rules}
@@ -14,7 +13,7 @@ use Rattle.port.specs.declared.Link.{Link}
 -- another count: each time readiness begins, the wait begins
 unfoldable pub countedOf : Link → Rules → ℕ → Link
 countedOf l rules n =
-    if not (readyOf rules (l .held)) && readyOf rules n then restartedOf (withHeld l n) rules
+    if not (readyOf rules (l .held)) && readyOf rules n then withStrobe (withHeld l n) (readiedOf (l .strobe) rules)
     else withHeld l n
 
 -- a read removes the oldest input element

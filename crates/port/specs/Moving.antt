@@ -2,7 +2,7 @@
 use Prim.Native.Nat.{ℕ}
 use mathlib.Core.Bool.{Bool}
 use Rattle.bits.specs.Choice.{if_then_else_}
-use Rattle.port.specs.Buffering.{storedAt, removedAt, oldestAt, filledAt, takenAt, latchedAt, storedCount, takenCount}
+use Rattle.port.specs.Buffering.{storedAt, removedAt, oldestAt, filledAt, takenAt, latchedAt, storedCount, removedCount}
 use Rattle.port.specs.Parts.{placesOf, cellsOf}
 use Rattle.port.specs.declared.Way.{Way}
 use Rattle.port.specs.declared.Way.the-variants.{Input, Output, Direct}
@@ -34,7 +34,7 @@ shiftedOf Direct held c pins = c
 
 unfoldable pub movedCount : Way → ℕ → ℕ
 movedCount Input held = storedCount held
-movedCount Output held = takenCount held
+movedCount Output held = removedCount held
 movedCount Direct held = held
 
 -- where the pair moves these cells

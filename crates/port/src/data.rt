@@ -38,7 +38,7 @@ impl Link {
         let is = rules.ready(held);
         self.held = held;
         if !was & is {
-            return self.restarted(rules);
+            self.strobe = self.strobe.readied(rules);
         }
         self
     }

@@ -3,7 +3,7 @@
 use crate::Cells;
 use crate::Way;
 ghost use mathlib.Core.Path.{_≡_};
-ghost use Rattle.port.specs.Buffering.{storedCount, removedCount, filledCount, takenCount};
+ghost use Rattle.port.specs.Buffering.{storedCount, removedCount, filledCount};
 ghost use Rattle.port.specs.Moving.{storedOf, removedOf, oldestOf, filledOf, takenOf, shiftedOf, movedOf, movedCount, drawnOf, putOf};
 
 // The count after an input element is stored.
@@ -16,7 +16,7 @@ fn stored_count(held: u8) -> u8
     2
 }
 
-// The count after the oldest is removed.
+// The count after one is removed by a read, or taken by an edge.
 pub(crate) fn removed_count(held: u8) -> u8
     ensures { λ r. ⌜ r ≡ removedCount held ⌝ }
 {
@@ -39,23 +39,13 @@ pub(crate) fn filled_count(held: u8) -> u8
     held
 }
 
-// The count after the final latch is emptied.
-fn taken_count(held: u8) -> u8
-    ensures { λ r. ⌜ r ≡ takenCount held ⌝ }
-{
-    if held > 1 {
-        return 1;
-    }
-    0
-}
-
 // The count after an accepted edge.
 pub(crate) fn moved_count(way: Way, held: u8) -> u8
     ensures { λ r. ⌜ r ≡ movedCount way held ⌝ }
 {
     match way {
         Way::Input => stored_count(held),
-        Way::Output => taken_count(held),
+        Way::Output => removed_count(held),
         Way::Direct => held,
     }
 }

@@ -87,7 +87,7 @@ unfolding
     tinLevel freshC freshGate writeTcr writePreload soundGate
     freshDevice readOf writeOf pinned pinOf
     dmaOf enabledIn orders rankedOf flagOf firstOf highestOf offsetOf vectorOf answerOf acknowledgeOf
-    interrupts.statusOf interrupts.statusesOf interrupts.enabledOf interrupts.portAcknowledge
+    interrupts.firstStatusOf interrupts.secondStatusOf interrupts.statusesOf interrupts.enabledOf interrupts.portAcknowledge
 found r = shownOf (playOf (r .list) freshDevice (replicate 2 0) (replicate (r .room) 0))
 
 -- P8 preload 0, 65,536 clocks

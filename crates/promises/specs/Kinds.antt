@@ -88,7 +88,8 @@ unfolding tinEvent tinGoes
 tin-keeps g level =
     let t = g .timer in
     let P : Counted → Type 0 = λ c. c .timer .tcr ≡ t .tcr in
-    branch P (not (runsOf (t .tcr) level)) _ _ (λ _. refl)
+    branch P (not (runsOf (t .tcr) level)) _ _
+    (λ _. branch (λ (x : Timer). x .tcr ≡ t .tcr) (runsOf (t .tcr) (tinLevel (g .c))) _ _ (λ _. refl) (λ _. refl))
     (λ _. branch P (tinLevel (g .c) || not level) _ _ (λ _. refl)
     (λ _. branch P (eqb (sourceOf (t .tcr)) 2) _ _ (λ _. step-keeps t .tcr)
     (λ _. branch P (eqb (sourceOf (t .tcr)) 3) _ _ (λ _. count-keeps t .0 .tcr) (λ _. refl))))

@@ -71,7 +71,8 @@ barren-step t b =
 barren-tin : (t : Timer) (old new : Bool) → Barren t → StaysBarren (tinGoes t old new)
 unfolding tinGoes
 barren-tin t old new b =
-    branch StaysBarren (not (runsOf (t .tcr) new)) _ _ (λ _. (due-barren (haltedOf t) (b .reload) (b .preload) refl, refl))
+    branch StaysBarren (not (runsOf (t .tcr) new)) _ _
+    (λ _. branch (λ x. StaysBarren (quiet x)) (runsOf (t .tcr) old) (haltedOf t) t (λ _. (due-barren (haltedOf t) (b .reload) (b .preload) refl, refl)) (λ _. (b, refl)))
     (λ _. branch StaysBarren (old || not new) _ _ (λ _. (b, refl))
     (λ _. branch StaysBarren (eqb (sourceOf (t .tcr)) 2) _ _ (λ _. barren-step t b)
     (λ _. branch StaysBarren (eqb (sourceOf (t .tcr)) 3) _ _ (λ _. barren-count t b) (λ _. (b, refl)))))

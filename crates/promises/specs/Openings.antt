@@ -81,7 +81,7 @@ clock-opens tin t = branch (OpensRightly t) (clockSteps (t .tcr) tin) _ _ (λ _.
 pub tin-opens : (t : Timer) (old new : Bool) → OpensRightly t (tinGoes t old new)
 unfolding tinGoes
 tin-opens t old new =
-    branch (OpensRightly t) (not (runsOf (t .tcr) new)) _ _ (λ _. kept t)
+    branch (OpensRightly t) (not (runsOf (t .tcr) new)) _ _ (λ _. branch (λ x. OpensRightly t (quiet x)) (runsOf (t .tcr) old) _ _ (λ _. kept t) (λ _. kept t))
     (λ _. branch (OpensRightly t) (old || not new) _ _ (λ _. kept t)
     (λ _. branch (OpensRightly t) (eqb (sourceOf (t .tcr)) 2) _ _ (λ _. step-opens t)
     (λ _. branch (OpensRightly t) (eqb (sourceOf (t .tcr)) 3) _ _ (λ _. count-opens t) (λ _. kept t))))

@@ -10,5 +10,5 @@ counted-spec =
     tie.close
     (tie.spec
     (λ c κs. search needs) (λ c κs. search needs) (λ c κs. search needs)
-    (λ c. simp (sym (c .before .before .before .ready .ensures), sym (c .before .before .ready2 .ensures), c .before .if1 .taken, sym (c .restarted .ensures)))
+    (λ c. simp (sym (c .before .before .before .ready .ensures), sym (c .before .before .ready2 .ensures), c .before .if1 .taken, sym (c .readied .ensures)))
     (λ c. simp (sym (c .before .before .ready .ensures), sym (c .before .ready2 .ensures), c .if1 .left)))

@@ -11,4 +11,4 @@ moved-count-spec =
     (tie.spec
     (λ c. search needs) (λ c κs. search needs) (λ c. search needs) (λ c κs. search needs) (λ c. search needs)
     (λ c. simp (c .before .enum-told .given .1, sym (c .stored-count .ensures)))
-    (λ c. simp (c .before .enum-told2 .given .1, sym (c .taken-count .ensures))) (λ c. simp (c .enum-told3 .given .1)))
+    (λ c. simp (c .before .enum-told2 .given .1, sym (c .removed-count .ensures))) (λ c. simp (c .enum-told3 .given .1)))

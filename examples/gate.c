@@ -6,7 +6,6 @@
 #include <inttypes.h>
 #include <stdio.h>
 
-enum { TCR = 16, PRELOAD_LOW = 21 };
 enum { N = 2, DELAY = 32 * (N + 1), RUN = 0x01 /* port C pins, reload, CLK through the prescaler, enabled */ };
 
 /* Events follow each other bit by bit, so most begin inside a byte. */
@@ -22,15 +21,17 @@ static const uint32_t second_start = 110;
 int main(void)
 {
     uint8_t device[PIT_DEVICE_SIZE];
-    uint8_t answers[1];
     uint32_t openings[8];
     uint64_t totals[PIT_TOTALS];
     uint64_t opening;
+    uint32_t refusal;
 
     pit_fresh(device, sizeof device);
-    pit_write(device, sizeof device, PRELOAD_LOW, N);
-    pit_write(device, sizeof device, TCR, RUN);
-    if (pit_play(device, sizeof device, burst, sizeof burst, answers, 0, openings, 8, totals, PIT_TOTALS) != 0) {
+    pit_write(device, sizeof device, PIT_CPRL, N);
+    pit_write(device, sizeof device, PIT_TCR, RUN);
+    refusal = pit_play(device, sizeof device, burst, sizeof burst, NULL, 0, openings, 8, totals, PIT_TOTALS);
+    if (refusal != PIT_ACCEPTED) {
+        printf("refused with %" PRIu32 " at bit %" PRIu64 "\n", refusal, totals[PIT_PLACE]);
         return 1;
     }
     for (opening = 0; opening < totals[PIT_OPENINGS]; opening++) {

@@ -8,7 +8,7 @@
 #include <string.h>
 #include <ucontext.h>
 
-#define ROUNDS 400u
+#define ROUNDS 200u
 #define STACK_ROOM 32768u
 #define PATTERN 0xA5
 #define RETURN_ADDRESS 8u

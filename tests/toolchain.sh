@@ -7,19 +7,21 @@ BUILD=target/tests
 LIBRARY=${PIT_LIBRARY:-target/staticlib/libpit_c.a} # `standin`: the model's own stand-in, tests/standin.c
 GENERATOR=(tests/generate.c tests/model/model.c)    # what every program with generated lists is made of
 
-# need PROGRAM PACKAGE...: installs Debian packages where the program is missing.
+root=$PWD
+speaker=library
+. tools/build.sh
+
+# need PROGRAM PACKAGE...: installs Debian packages where the program is missing, and says so.
 need() {
     local program=$1 log
     shift
     command -v "$program" >/dev/null && return
-    log=$(mktemp)
+    echo "installing, for $program: $*" >&2
     export DEBIAN_FRONTEND=noninteractive
-    if ! { apt-get -qq update && apt-get -qq install -y --no-install-recommends "$@"; } >"$log" 2>&1; then
-        cat "$log" >&2
-        echo "cannot install: $*" >&2
+    if ! log=$(apt-get -qq update 2>&1 && apt-get -qq install -y --no-install-recommends "$@" 2>&1); then
+        printf '%s\n' "$log" "cannot install: $*" >&2
         exit 2
     fi
-    rm -f "$log"
 }
 
 # For programs that use the model alone.
@@ -30,18 +32,9 @@ pick_native() {
     RUN=
 }
 
-# Builds the library, which proves it, where it is missing or older than its sources.
+# Builds the library, which proves it, unless a passed build of the same sources left it.
 library() {
-    local log
-    [ -z "${PIT_LIBRARY-}" ] || return 0
-    [ -f "$LIBRARY" ] && [ -z "$(find crates crates.txt -newer "$LIBRARY" -type f | head -n 1)" ] && return
-    log=$(mktemp)
-    if ! rt staticlib pit_c >"$log" 2>&1; then
-        tail -n 40 "$log" >&2
-        exit 2
-    fi
-    touch "$LIBRARY"
-    rm -f "$log"
+    [ -n "${PIT_LIBRARY-}" ] || provide "$LIBRARY" pit_c staticlib
 }
 
 # For programs that are linked with the library.

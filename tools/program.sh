@@ -3,7 +3,10 @@
 set -u
 export LC_ALL=C
 
-program=$root/target/bin/${name/-/_}
+crate=${name/-/_}
+program=target/bin/$crate
+speaker=$name
+. "$root/tools/build.sh"
 
 usage() {
     local lines
@@ -32,62 +35,26 @@ the program can't be built. docs/BENCH.md tells how to make a list and how to re
 END
 }
 
-complain() {
-    echo "$name: $*" >&2
-    exit 2
-}
-
-# Whether the program is missing or older than a source.
-stale() {
-    [ ! -x "$program" ] || [ -n "$(find "$root/crates.txt" "$root/crates" \
-        \( -name '*.rt' -o -name '*.antt' -o -name crates.txt \) -newer "$program" -print -quit)" ]
-}
-
-# The program gets the time at which its check began, also where rt finds that nothing has changed, so that the
-# same sources are checked once and a source edited meanwhile is seen the next time.
-build() {
-    local began log
-    command -v rt >/dev/null || complain "building needs rt, of the Rattle kit, and there is none"
-    echo "$name: building; all that the program rests on is proved first, which takes some minutes" >&2
-    began=$(date +%s.%N)
-    log=$(mktemp)
-    if ! (cd "$root" && rt check "${program##*/}") </dev/null >"$log" 2>&1; then
-        cat "$log" >&2
-        rm -f "$log"
-        complain "the program can't be built"
-    fi
-    rm -f "$log"
-    touch -d "@$began" "$program"
-}
-
-# Two calls at once build one after the other.
-build_if_stale() {
-    stale || return 0
-    mkdir -p "$root/target"
-    (
-        flock 9
-        ! stale || build
-    ) 9>"$root/target/build.lock" || exit 2
-}
-
-# Sets `under` to what an x86-64 program runs under: nothing, or on another machine an emulator and a C library,
-# the kit's own, as rt takes them, or Debian's.
+# Sets `under` to what an x86-64 program runs under: nothing, or on another machine an emulator and a C library, the
+# kit's own, as rt takes them, or Debian's.
 pick_emulator() {
-    local kit tools libraries emulator
+    local machine folders kit tools libraries=/usr/x86_64-linux-gnu/lib missing=()
     under=()
-    [ "$(uname -m)" != x86_64 ] || return 0
-    kit=${RATTLE_HOME:-$(dirname "$(dirname "$(readlink -f "$(command -v rt)")")")}
-    tools=$kit/on/$(uname -m)/toolchain
-    emulator=$tools/bin/qemu-x86_64
-    libraries=$tools/lib
-    if [ ! -x "$emulator" ]; then
-        emulator=qemu-x86_64
-        libraries=/usr/x86_64-linux-gnu/lib
-        . "$root/tests/toolchain.sh"
-        need "$emulator" qemu-user </dev/null
-        need "$libraries/ld-linux-x86-64.so.2" libc6-amd64-cross </dev/null
-    fi
-    under=("$emulator" "$libraries/ld-linux-x86-64.so.2" --library-path "$libraries")
+    machine=$(uname -m)
+    [ "$machine" != x86_64 ] || return 0
+    mapfile -t folders < <(kits "$program")
+    for kit in "${folders[@]}"; do
+        tools=$kit/on/$machine/toolchain
+        if [ -x "$tools/bin/qemu-x86_64" ]; then
+            under=("$tools/bin/qemu-x86_64" "$tools/lib/ld-linux-x86-64.so.2" --library-path "$tools/lib")
+            return
+        fi
+    done
+    command -v qemu-x86_64 >/dev/null || missing+=(qemu-user)
+    [ -e "$libraries/ld-linux-x86-64.so.2" ] || missing+=(libc6-amd64-cross)
+    [ ${#missing[@]} = 0 ] || give_up "the program is x86-64 code and this machine is $machine: the Rattle kit, which" \
+        "has an emulator, is not found, and of Debian ${missing[*]} is missing: apt-get install ${missing[*]}"
+    under=(qemu-x86_64 "$libraries/ld-linux-x86-64.so.2" --library-path "$libraries")
 }
 
 # Passes the program's lines on and answers by the first one: 0, 1, or 2 where there is none, since the program
@@ -98,7 +65,7 @@ pass() {
     { said=$({ printf '%s\n' "$first" && cat; } 2>&1 >&3); } 3>&1
     case $said in
     '' | *'Broken pipe') ;;
-    *) complain "${said##*: }" ;;
+    *) give_up "${said##*: }" ;;
     esac
     case $first in
     'R 0 '*) return 0 ;;
@@ -113,6 +80,7 @@ case $#,${1-} in
     exit 0
     ;;
 0,) ;;
+1,[!-]*) give_up "a list comes on standard input: ./$name < $(printf %q "$1")" ;;
 *)
     usage >&2
     exit 2
@@ -122,14 +90,14 @@ if [ -t 0 ]; then
     usage >&2
     exit 2
 fi
-{ : 3<&0; } 2>/dev/null || complain "standard input is closed"
-{ : 3>&1; } 2>/dev/null || complain "standard output is closed"
-build_if_stale
+{ : 3<&0; } 2>/dev/null || give_up "standard input is closed"
+{ : 3>&1; } 2>/dev/null || give_up "standard output is closed"
+provide "$program" "$crate" check
 pick_emulator
-"${under[@]}" "$program" | pass
+"${under[@]}" "$root/$program" | pass
 ended=("${PIPESTATUS[@]}")
 # 141: the program wrote to a reader that has gone away.
 case ${ended[0]} in
 0 | 141) exit "${ended[1]}" ;;
-*) complain "the program ended with status ${ended[0]}" ;;
+*) give_up "the program ended with status ${ended[0]}" ;;
 esac

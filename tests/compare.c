@@ -2,12 +2,15 @@
  *
  *   compare COUNT SEED [--first N]   COUNT lists and as many devices, numbered from N (0 if not said)
  *   compare --long                   a few devices over hundreds of millions of clocks
- *   compare --lists FILE...          lists from files: lines `D` and a device in hex (fresh if none), `L` and
- *                                    a list in hex, `#` and a remark
+ *   compare --lists FILE...          lists from files, of three forms: lines `D` and a device in hex (fresh if
+ *                                    none) and `L` and a list in hex; lines of hex, which are one list; a list's
+ *                                    own bytes, where they are no text. `#` begins a remark; blank lines are none
  *
  * After every event of a well-formed list, played by the single calls, everything that can be seen of the
- * device must be equal; so it must after single events on devices of any kind, refused ones among them; whole lists, well-formed and damaged, must be equal through pit_play, with what was
- * lent past the used part. Stops at the first difference with exit 1. */
+ * device must be equal; so it must after single events on devices of any kind, refused ones among them; whole
+ * lists, well-formed and damaged, must be equal through pit_play, with what was lent past the used part. Stops at the
+ * first difference with exit 1; exit 2 where there is nothing to compare or something is not as above, with a line on
+ * standard error. */
 #include "generate.h"
 #include "hex.h"
 #include "pit.h"
@@ -863,6 +866,18 @@ static void compare_long(void)
 
 /* ---- Lists from files ---- */
 
+static void give_up(const char *format, ...)
+{
+    va_list arguments;
+
+    fprintf(stderr, "compare: ");
+    va_start(arguments, format);
+    vfprintf(stderr, format, arguments);
+    va_end(arguments);
+    fprintf(stderr, "\n");
+    exit(2);
+}
+
 static int hex_digit(int character)
 {
     static const char digits[] = "0123456789ABCDEFabcdef";
@@ -874,21 +889,34 @@ static int hex_digit(int character)
     return (int)(found - digits) < 16 ? (int)(found - digits) : (int)(found - digits) - 6;
 }
 
-/* The bytes of a line of hex digits, spaces between bytes or not; exits where it is none. */
-static size_t hex_bytes(const char *name, const char *text, uint8_t *bytes, size_t room)
+static bool is_blank(char character)
 {
-    size_t size = 0;
+    return character == ' ' || character == '\r' || character == '\n' || character == '\t';
+}
 
+/* A line of a file, for what is said of it. */
+struct line {
+    const char *name;
+    size_t number;
+    const char *text;
+};
+
+/* Puts the bytes of hex digits, spaces between bytes or not, behind those that are there, and answers how many there
+ * are now. */
+static size_t hex_bytes(const struct line *line, const char *text, uint8_t *bytes, size_t size, size_t room)
+{
     for (;;) {
-        while (*text == ' ' || *text == '\r' || *text == '\n' || *text == '\t') {
+        while (is_blank(*text)) {
             text++;
         }
         if (*text == 0) {
             return size;
         }
-        if (hex_digit(text[0]) < 0 || hex_digit(text[1]) < 0 || size == room) {
-            printf("%s: not a line of at most %zu hex bytes\n", name, room);
-            exit(2);
+        if (hex_digit(text[0]) < 0 || hex_digit(text[1]) < 0) {
+            give_up("%s, line %zu: not two hexadecimal digits: %.2s", line->name, line->number, text);
+        }
+        if (size == room) {
+            give_up("%s, line %zu: more than %zu bytes", line->name, line->number, room);
         }
         bytes[size++] = (uint8_t)(hex_digit(text[0]) << 4 | hex_digit(text[1]));
         text += 2;
@@ -914,30 +942,146 @@ static void compare_given(const uint8_t *device, const struct generate_list *lis
     counts.lists++;
 }
 
-static void compare_file(const char *name)
+/* All of a file, with a 0 behind it. */
+static char *file_text(const char *name, size_t *size)
 {
-    static char line[4 * GENERATE_LIST_ROOM];
+    FILE *file = fopen(name, "rb");
+    char *text = NULL;
+    size_t room = 0;
+    size_t more;
+
+    if (file == NULL) {
+        give_up("%s: cannot be read", name);
+    }
+    *size = 0;
+    do {
+        if (*size == room) {
+            room = 2 * room + 65536;
+            text = realloc(text, room + 1);
+            if (text == NULL) {
+                give_up("%s: too long", name);
+            }
+        }
+        more = fread(text + *size, 1, room - *size, file);
+        *size += more;
+    } while (more > 0);
+    if (ferror(file)) {
+        give_up("%s: cannot be read", name);
+    }
+    fclose(file);
+    text[*size] = 0;
+    return text;
+}
+
+/* Whether a file has ASCII lines; a remark may have other letters. */
+static bool is_text(const char *text, size_t size)
+{
+    bool remark = false;
+    size_t place;
+
+    for (place = 0; place < size; place++) {
+        unsigned char byte = (unsigned char)text[place];
+
+        if (byte == '\n' || place == 0) {
+            remark = text[place + (byte == '\n')] == '#';
+        }
+        if (byte == 0x7F || (byte < 0x20 && !is_blank(text[place])) || (byte > 0x7F && !remark)) {
+            return false;
+        }
+    }
+    return true;
+}
+
+/* `D` is a hex digit too: as a mark it stands alone. */
+static bool is_marked(const char *text, char mark)
+{
+    return text[0] == mark && (mark == 'L' || text[1] == 0 || is_blank(text[1]));
+}
+
+/* Takes a line, ended by a 0, from the text; false where there is none. */
+static bool next_line(char **rest, struct line *line)
+{
+    char *end = strchr(*rest, '\n');
+
+    if (**rest == 0) {
+        return false;
+    }
+    line->text = *rest;
+    line->number++;
+    *rest = end == NULL ? *rest + strlen(*rest) : end + 1;
+    if (end != NULL) {
+        *end = 0;
+    }
+    return true;
+}
+
+static bool is_nothing(const char *text)
+{
+    return text[0] == '#' || text[strspn(text, " \t\r")] == 0;
+}
+
+/* Lines of hex are one list, unless the file has marks: then each line has one. */
+static void compare_lines(const char *name, char *text)
+{
     static struct generate_list list;
     struct model_device fresh = model_fresh();
     uint8_t device[PIT_DEVICE_SIZE];
-    FILE *file = fopen(name, "r");
+    struct line line = {name, 0, text};
+    uint64_t before = counts.lists;
+    bool marks = false;
+    bool plain = false;
 
-    if (file == NULL) {
-        printf("%s: cannot be read\n", name);
-        exit(2);
-    }
+    list.size = 0;
     model_to_bytes(&fresh, device);
-    while (fgets(line, sizeof line, file) != NULL) {
-        if (line[0] == 'D' && hex_bytes(name, line + 1, device, sizeof device) != sizeof device) {
-            printf("%s: a device has %u bytes\n", name, PIT_DEVICE_SIZE);
-            exit(2);
-        }
-        if (line[0] == 'L') {
-            list.size = hex_bytes(name, line + 1, list.bytes, sizeof list.bytes);
+    while (next_line(&text, &line)) {
+        if (is_marked(line.text, 'D')) {
+            if (hex_bytes(&line, line.text + 1, device, 0, sizeof device) != sizeof device) {
+                give_up("%s, line %zu: a device has %u bytes", name, line.number, PIT_DEVICE_SIZE);
+            }
+            marks = true;
+        } else if (is_marked(line.text, 'L')) {
+            list.size = hex_bytes(&line, line.text + 1, list.bytes, 0, sizeof list.bytes);
             compare_given(device, &list);
+            marks = true;
+        } else if (!is_nothing(line.text)) {
+            if (hex_digit(line.text[strspn(line.text, " \t")]) < 0) {
+                give_up("%s, line %zu: neither D, L, # nor hexadecimal bytes", name, line.number);
+            }
+            list.size = hex_bytes(&line, line.text, list.bytes, plain ? list.size : 0, sizeof list.bytes);
+            plain = true;
+        }
+        if (marks && plain) {
+            give_up("%s, line %zu: marks D and L beside hex without a mark", name, line.number);
         }
     }
-    fclose(file);
+    if (plain) {
+        compare_given(device, &list);
+    }
+    if (counts.lists == before) {
+        give_up("%s: nothing to compare: it has no list", name);
+    }
+}
+
+/* A file that is no text is a list itself. */
+static void compare_file(const char *name)
+{
+    static struct generate_list list;
+    struct model_device fresh = model_fresh();
+    uint8_t device[PIT_DEVICE_SIZE];
+    size_t size;
+    char *text = file_text(name, &size);
+
+    if (is_text(text, size)) {
+        compare_lines(name, text);
+    } else if (size > sizeof list.bytes) {
+        give_up("%s: a list of more than %zu bytes", name, sizeof list.bytes);
+    } else {
+        model_to_bytes(&fresh, device);
+        memcpy(list.bytes, text, size);
+        list.size = size;
+        compare_given(device, &list);
+    }
+    free(text);
 }
 
 /* ---- The program ---- */
@@ -976,6 +1120,9 @@ static int usage(void)
 
 static int compare_files(int many, char **names)
 {
+    if (many == 0) {
+        give_up("nothing to compare: no file is named");
+    }
     while (many-- > 0) {
         compare_file(*names++);
     }
@@ -983,12 +1130,46 @@ static int compare_files(int many, char **names)
     return 0;
 }
 
+static uint64_t number_of(const char *what, const char *text)
+{
+    const char *rest = text;
+    uint64_t number = 0;
+
+    for (; *rest >= '0' && *rest <= '9'; rest++) {
+        unsigned digit = (unsigned)(*rest - '0');
+
+        if (number > (UINT64_MAX - digit) / 10) {
+            give_up("%s is over %" PRIu64 ": %s", what, UINT64_MAX, text);
+        }
+        number = 10 * number + digit;
+    }
+    if (rest == text || *rest != 0) {
+        give_up("%s is no number: %s", what, text);
+    }
+    return number;
+}
+
+static int compare_numbers(uint64_t count, uint64_t seed, uint64_t first)
+{
+    uint64_t done;
+
+    if (count == 0) {
+        give_up("nothing to compare: COUNT is 0");
+    }
+    if (first > UINT64_MAX - count) {
+        give_up("--first %" PRIu64 " leaves no numbers for so many lists", first);
+    }
+    compare_outlying();
+    for (done = 0; done < count; done++) {
+        compare_number(seed, first + done);
+    }
+    print_summary();
+    return 0;
+}
+
 int main(int argument_count, char **arguments)
 {
-    uint64_t count;
-    uint64_t seed;
     uint64_t first = 0;
-    uint64_t number;
 
     trial.event_number = NO_EVENT;
     if (argument_count >= 2 && strcmp(arguments[1], "--lists") == 0) {
@@ -1000,16 +1181,9 @@ int main(int argument_count, char **arguments)
         return 0;
     }
     if (argument_count == 5 && strcmp(arguments[3], "--first") == 0) {
-        first = strtoull(arguments[4], NULL, 10);
+        first = number_of("--first N", arguments[4]);
     } else if (argument_count != 3) {
         return usage();
     }
-    count = strtoull(arguments[1], NULL, 10);
-    seed = strtoull(arguments[2], NULL, 10);
-    compare_outlying();
-    for (number = first; number < first + count; number++) {
-        compare_number(seed, number);
-    }
-    print_summary();
-    return 0;
+    return compare_numbers(number_of("COUNT", arguments[1]), number_of("SEED", arguments[2]), first);
 }

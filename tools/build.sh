@@ -153,6 +153,7 @@ follow() {
             crate=${crate%% *}
             ;;
         "rt: target/staticlib/lib$1.a has "*) crate=$1 ;;
+        'library '*': modules loaded='*) ;;
         *) said+=$line$'\n' ;;
         esac
         if [ -n "$crate" ]; then

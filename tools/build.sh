@@ -139,28 +139,27 @@ stop() {
     kill -s "$stopped" $BASHPID
 }
 
-# follow CRATE: shows each crate as it is proved, from what rt prints, and leaves in `said` what it says of the rest.
+# follow CRATE: shows each crate as it is proved, from what rt prints, and leaves in `said` what it says of the others.
+# rt ends what it prints of a crate with a line of its own.
 follow() {
-    local line proved=0 all crate
+    local line lines='' proved=0 all crate
     all=$(rests_on "$1" | wc -l)
     said=''
     while IFS= read -r line; do
-        crate=''
+        line=${line/#"rt: target/staticlib/lib$1.a has "/"rt: $1 proved (library) "} # all that rt says of it
         case $line in
-        'rt: '*' proved (unchanged '*) proved=$((proved + 1)) said='' ;;
         'rt: '*' proved ('*)
             crate=${line#rt: }
             crate=${crate%% *}
+            proved=$((proved + 1)) lines=''
+            [[ $line == *' (unchanged '* ]] || progress "$proved of $all crates proved: $crate"
             ;;
-        "rt: target/staticlib/lib$1.a has "*) crate=$1 ;;
+        'rt: '*) said+=$lines$line$'\n' lines='' ;;
         'library '*': modules loaded='*) ;;
-        *) said+=$line$'\n' ;;
+        *) lines+=$line$'\n' ;;
         esac
-        if [ -n "$crate" ]; then
-            proved=$((proved + 1)) said=''
-            progress "$proved of $all crates proved: $crate"
-        fi
     done
+    said+=$lines
     progress
 }
 

@@ -52,8 +52,8 @@ pick_emulator() {
     done
     command -v qemu-x86_64 >/dev/null || missing+=(qemu-user)
     [ -e "$libraries/ld-linux-x86-64.so.2" ] || missing+=(libc6-amd64-cross)
-    [ ${#missing[@]} = 0 ] || give_up "the program is x86-64 code and this machine is $machine: the Rattle kit, which" \
-        "has an emulator, is not found, and of Debian ${missing[*]} is missing: apt-get install ${missing[*]}"
+    [ ${#missing[@]} = 0 ] || give_up "the program is x86-64 code, this machine is $machine, and no Rattle kit with" \
+        "an emulator is found; with these Debian packages it can be played: apt-get install ${missing[*]}"
     under=(qemu-x86_64 "$libraries/ld-linux-x86-64.so.2" --library-path "$libraries")
 }
 

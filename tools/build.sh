@@ -40,11 +40,9 @@ sums() {
     mapfile -t folders < <(rests_on "$1")
     (
         cd "$root" || exit
-        {
-            find crates.txt "${folders[@]/#/crates/}" -type f \
-                \( -name '*.rt' -o -name '*.antt' -o -name stdin -o -name stdout -o -name crates.txt \) | LC_ALL=C sort
-            [ $# = 1 ] || echo "$2"
-        } | xargs -d '\n' sha256sum || true
+        find crates.txt "${folders[@]/#/crates/}" "${@:2}" -type f \( -name '*.rt' -o -name '*.antt' \
+            -o -name stdin -o -name stdout -o -path crates.txt -o -path "${2-}" \) -exec sha256sum {} + |
+            LC_ALL=C sort -k 2
     ) 2>/dev/null
 }
 
@@ -68,13 +66,13 @@ difference() {
 # kits FILE: the folders where a Rattle kit may stand: as the caller says, that of rt, the one that built FILE, the
 # usual one.
 kits() {
-    local rt
+    local rt home
     [ -z "${RATTLE_HOME-}" ] || echo "$RATTLE_HOME"
     if rt=$(command -v rt); then
         rt=$(readlink -f "$rt")
         echo "${rt%/*/*}"
     fi
-    sed -n '2s/^home //p' "$(mark_of "$1")" 2>/dev/null || true
+    { read -r _ && read -r _ home && echo "$home"; } 2>/dev/null <"$(mark_of "$1")" || true
     echo /opt/rattle
 }
 
@@ -101,10 +99,13 @@ find_why() {
         why='no proved one is here yet'
         return
     fi
-    was=$(tail -n +3 "$mark")
+    {
+        read -r _ built || true
+        read -r _ || true
+        was=$(cat)
+    } <"$mark"
     now=$(sums "$2" "$1")
     find_kit "$1"
-    built=$(sed -n '1s/^kit //p' "$mark")
     if [ "$was" != "$now" ]; then
         why=$(difference "$was" "$now")
         case $why in

@@ -742,8 +742,8 @@ static void disable_port(struct model_device *device, unsigned which)
     device->port[which].pulse = 0;
 }
 
-/* 01, read as: one write of PGCR is judged by its new value; a mode change concerns both ports; a port whose enable
- * bit is set begins with nothing held, and in 00 with a readiness; one whose mode and enable stay is not touched. */
+/* 01, read as: one write of PGCR is judged by its new value; a mode change concerns both ports; setting enable begins
+ * readiness (in 00, since 01 is empty) and does nothing else; a port whose mode and enable stay is not touched. */
 static void write_pgcr(struct model_device *device, uint8_t value)
 {
     uint8_t before = device->pgcr;
@@ -759,7 +759,10 @@ static void write_pgcr(struct model_device *device, uint8_t value)
             disable_port(device, which);
         } else if (!bit(before, 4 + which) && enabled(device, which)) {
             HIT("PGCR write enables");
-            empty_port(device, which);
+            if (MISREAD(77)) {
+                empty_port(device, which);
+            }
+            begin_wait(device, which);
         } else {
             HIT("PGCR write keeps mode and enable");
         }

@@ -18,7 +18,7 @@ use Rattle.port.specs.Handshaking.{waitOf, longest, movableOf, readyOf, accepts
 use Rattle.port.specs.Parts.{strobeWith, linkWith, withControl, withFlags, withLevels}
 use Rattle.port.specs.Edges.{restartedOf, flushedOf, firstEdge, secondEdge}
 use Rattle.port.specs.Data.{countedOf, readCount, writtenCount, readOf, writtenOf}
-use Rattle.port.specs.Switching.{pgcrWritten, controlWritten, flagsClearedOf}
+use Rattle.port.specs.Switching.{beginsOf, pgcrWritten, controlWritten, flagsClearedOf}
 use Rattle.port.specs.Clocking.{clockedLink, clocksOf}
 use Rattle.port.specs.Fresh.{freshLink, resetLink}
 use Rattle.port.specs.Validity.{rangesOf, allowedOf, idleOf, lockedOf, strobedOf, soundOf}
@@ -300,6 +300,14 @@ switched l r h = soundOf (restartedOf (withFlags l (l .flag1) false) (under r h)
 abbrev stayed : Link → Rules → Handshake → Bool
 stayed l r h = given (not (sensesOf (r .handshake)) || sensesOf h) (λ _. soundOf (restartedOf l (under r h)) (under r h))
 
+-- the same rules with the enable bit set
+abbrev woken : Rules → Rules
+woken r = record { way = r .way; handshake = r .handshake; enabled = true; a = r .a; b = r .b }
+
+-- a pair that was not enabled, where readiness may begin then
+abbrev wakes : Link → Rules → Bool
+wakes l r = given (not (r .enabled)) (λ _. soundOf (beginsOf l (woken r)) (woken r))
+
 -- conditions that all hold, tried as one and then each by itself
 abbrev allTrue : List Bool → Bool
 allTrue [] = true
@@ -325,7 +333,7 @@ passed : (l : Link) (rules : Rules) → soundOf l rules ≡ true → AllTrue (pa
 unfolding soundOf rangesOf allowedOf strobedOf lockedOf movableOf clockedStrobe firstEdge movedCount storedCount removedCount secondEdge restartedOf
 passed l rules = all-kept passes l rules refl
 
--- and after data reads and writes, writes of PSR and another H2 control
+-- and after data reads and writes, writes of PSR, another H2 control and the enable bit set
 abbrev accesses : Link → Rules → List Bool
 accesses l r =
     soundOf (readOf l r) r
@@ -333,10 +341,11 @@ accesses l r =
     ∷ (anyBool and anyBool) .every (cleared l r)
     ∷ handshakes (switched l r)
     ∷ handshakes (stayed l r)
+    ∷ wakes l r
     ∷ []
 
 accessed : (l : Link) (rules : Rules) → soundOf l rules ≡ true → AllTrue (accesses l rules)
-unfolding soundOf rangesOf allowedOf strobedOf lockedOf movableOf readCount removedCount writtenCount filledCount countedOf readiedOf restartedOf
+unfolding soundOf rangesOf allowedOf strobedOf lockedOf movableOf readCount removedCount writtenCount filledCount countedOf beginsOf readiedOf restartedOf
 accessed l rules = all-kept accesses l rules refl
 
 -- A sound pair stays sound through one clock.
@@ -408,15 +417,52 @@ same-mode : (pair : Pair) (old new control : ℕ) → modeOf old ≡ modeOf new 
 unfolding rulesOf wayOf handshakeOf
 same-mode pair old new control e f = rw (e, f)
 
+-- the same mode field with the enable bit set says the same but for that
+set-mode : (pair : Pair) (old new control : ℕ) → modeOf old ≡ modeOf new → enabledOf pair new ≡ true → rulesOf pair new control ≡ woken (rulesOf pair old control)
+unfolding rulesOf wayOf handshakeOf
+set-mode pair old new control e f = rw (e, f)
+
+-- a bit that becomes 1 was 0
+was-clear : (a b : Bool) → Bool·beq a b ≡ false → b ≡ true → not a ≡ true
+was-clear true true differ on = absurd (true≢false differ)
+was-clear true false differ on = absurd (false≢true on)
+was-clear false b differ on = refl
+
+-- A sound pair stays sound where its enable bit is set.
+woken-sound : (l : Link) (rules : Rules) → soundOf l rules ≡ true → not (rules .enabled) ≡ true → soundOf (beginsOf l (woken rules)) (woken rules) ≡ true
+woken-sound l rules s off =
+    give (not (rules .enabled)) (λ _. soundOf (beginsOf l (woken rules)) (woken rules)) (accessed l rules s .1 .1 .1 .1 .1 .0) off
+
+begins-control : (l : Link) (rules : Rules) → beginsOf l rules .control ≡ l .control
+unfolding beginsOf
+begins-control l rules = branch (λ (x : Link). x .control ≡ l .control) (readyOf rules (l .held)) _ _ (λ _. refl) (λ _. refl)
+
+enabled-by : (pair : Pair) (pgcr control : ℕ) → rulesOf pair pgcr control .enabled ≡ enabledOf pair pgcr
+unfolding rulesOf
+enabled-by pair pgcr control = refl
+
+woken-under : (pair : Pair) (old new : ℕ) (l : Link) → soundUnder pair old l → modeOf old ≡ modeOf new → enabledOf pair new ≡ true → not (enabledOf pair old) ≡ true
+    → soundUnder pair new (beginsOf l (rulesOf pair new (l .control)))
+unfolding beginsOf
+woken-under pair old new l s e on off =
+    rw (begins-control l (rulesOf pair new (l .control)), set-mode pair old new (l .control) e on)
+    (woken-sound l (rulesOf pair old (l .control)) s (rw (enabled-by pair old (l .control)) off))
+
 -- A sound pair stays sound through a write of PGCR.
 pub pgcr-kept : (pair : Pair) (old new : ℕ) (l : Link) → soundUnder pair old l → soundUnder pair new (pgcrWritten l pair old new)
 unfolding pgcrWritten flushedOf restartedOf
 pgcr-kept pair old new l s =
     let mode = eqb (modeOf old) (modeOf new) in
     let enable = Bool·beq (enabledOf pair old) (enabledOf pair new) in
+    let on = enabledOf pair new in
     branch (soundUnder pair new) (mode && enable) l _
     (λ h. rw (← same-mode pair old new (l .control) (eqb-true _ _ (and-left mode enable h)) (beq-true _ _ (and-right mode enable h))) s)
-    (λ _. flushed-sound l (rulesOf pair new (l .control)))
+    (λ h. branch (soundUnder pair new) (mode && on) _ _
+    (λ k. let same = and-left mode on k in
+    let differ : enable ≡ false = rw same at h in
+    let set = and-right mode on k in
+    woken-under pair old new l s (eqb-true _ _ same) set (was-clear (enabledOf pair old) on differ set))
+    (λ _. flushed-sound l (rulesOf pair new (l .control))))
 
 -- the same submode and H2 control fields say the same
 same-control : (pair : Pair) (pgcr old new : ℕ) → submodeField old ≡ submodeField new → handshakeField old ≡ handshakeField new → rulesOf pair pgcr old ≡ rulesOf pair pgcr new

@@ -15,7 +15,8 @@ use Rattle.event.specs.Map.{PGCR, PSRR, PIVR, PADR, PBDR, PAAR, PBAR, PSR, TCR,
 use Rattle.port.specs.Control.{modeOf, submodeField, handshakeField, enabledOf, rulesOf}
 use Rattle.port.specs.Parts.{withControl, withStrobe, withFlags}
 use Rattle.port.specs.Edges.{restartedOf, flushedOf}
-use Rattle.port.specs.Switching.{pgcrWritten, controlWritten, flagsClearedOf}
+use Rattle.port.specs.Handshaking.{readyOf}
+use Rattle.port.specs.Switching.{beginsOf, pgcrWritten, controlWritten, flagsClearedOf}
 use Rattle.port.specs.declared.Pair.{Pair}
 use Rattle.port.specs.declared.Pair.the-variants.{H12, H34}
 use Rattle.port.specs.declared.Rules.{Rules}
@@ -166,12 +167,18 @@ flushed-none : (l : Link) (control : ℕ) (rules : Rules) → NoEdge l (flushedO
 unfolding flushedOf restartedOf
 flushed-none l control rules = record { first = λ e. absurd (false≢true e); second = λ e. absurd (false≢true e); held = inr refl }
 
+begins-none : (l : Link) (rules : Rules) → NoEdge l (beginsOf l rules)
+unfolding beginsOf
+begins-none l rules = branch (NoEdge l) (readyOf rules (l .held)) _ _ (λ _. kept l (l .control) _) (λ _. as-was l)
+
 pgcr-none : (l : Link) (pair : Pair) (old new : ℕ) → NoEdge l (pgcrWritten l pair old new)
 unfolding pgcrWritten
 pgcr-none l pair old new =
     branch (NoEdge l) (eqb (modeOf old) (modeOf new) && Bool·beq (enabledOf pair old) (enabledOf pair new)) _ _
     (λ _. as-was l)
-    (λ _. flushed-none l (l .control) (rulesOf pair new (l .control)))
+    (λ _. branch (NoEdge l) (eqb (modeOf old) (modeOf new) && enabledOf pair new) _ _
+    (λ _. begins-none l (rulesOf pair new (l .control)))
+    (λ _. flushed-none l (l .control) (rulesOf pair new (l .control))))
 
 control-none : (l : Link) (pair : Pair) (pgcr v : ℕ) → NoEdge l (controlWritten l pair pgcr v)
 unfolding controlWritten restartedOf

@@ -7,17 +7,33 @@ use crate::control::handshake_field;
 use crate::control::mode;
 use crate::control::submode_field;
 ghost use mathlib.Core.Path.{_≡_};
-ghost use Rattle.port.specs.Switching.{pgcrWritten, controlWritten, flagsClearedOf};
+ghost use Rattle.port.specs.Switching.{beginsOf, pgcrWritten, controlWritten, flagsClearedOf};
 
 impl Link {
+    // Readiness begins, where it now holds.
+    fn begins(mut self, rules: Rules) -> Link
+        ensures { λ r. ⌜ r ≡ beginsOf self rules ⌝ }
+    {
+        if rules.ready(self.held) {
+            self.strobe = self.strobe.readied(rules);
+        }
+        self
+    }
+
     // PGCR is written.
     pub fn pgcr_written(self, pair: Pair, old: u8, new: u8) -> Link
         ensures { λ r. ⌜ r ≡ pgcrWritten self pair old new ⌝ }
     {
-        if (mode(old) == mode(new)) & (enabled(pair, old) == enabled(pair, new)) {
+        let same = mode(old) == mode(new);
+        let on = enabled(pair, new);
+        if same & (enabled(pair, old) == on) {
             return self;
         }
-        self.flushed(Rules::of(pair, new, self.control))
+        let rules = Rules::of(pair, new, self.control);
+        if same & on {
+            return self.begins(rules);
+        }
+        self.flushed(rules)
     }
 
     // The control register is written.

@@ -7,9 +7,9 @@ use Rattle.bits.specs.Field.{bitOf, fieldOf}
 use Rattle.port.specs.Buffering.{storedCount}
 use Rattle.port.specs.Control.{modeOf, submodeField, handshakeField, wayOf, handshakeOf, enabledOf, firstSense, secondSense, rulesOf}
 use Rattle.port.specs.Moving.{storedOf, shiftedOf, movedOf, movedCount}
-use Rattle.port.specs.Handshaking.{movableOf, clockedStrobe}
+use Rattle.port.specs.Handshaking.{movableOf, readiedOf, clockedStrobe}
 use Rattle.port.specs.Edges as edges
-use Rattle.port.specs.Switching.{pgcrWritten, controlWritten}
+use Rattle.port.specs.Switching.{beginsOf, pgcrWritten, controlWritten}
 use Rattle.port.specs.Status.{statusIn}
 use Rattle.port.specs.Fresh.{freshPort, freshLink}
 use Rattle.port.specs.Validity as linkValidity
@@ -81,7 +81,7 @@ unfolding
     sourceOf runsOf timerValidity.soundOf timerValidity.restsOf timerRegisters.freshTimer timerRegisters.controlledOf timerRegisters.preloadedOf timerRegisters.withByte
     modeOf submodeField handshakeField wayOf handshakeOf enabledOf firstSense secondSense rulesOf movableOf storedCount storedOf shiftedOf movedOf movedCount statusIn
     linkValidity.soundOf linkValidity.rangesOf linkValidity.allowedOf linkValidity.strobedOf
-    edges.restartedOf edges.flushedOf edges.firstEdge edges.secondEdge pgcrWritten controlWritten freshPort freshLink
+    edges.restartedOf edges.flushedOf edges.firstEdge edges.secondEdge readiedOf beginsOf pgcrWritten controlWritten freshPort freshLink
     linkOf withLink ownPort rulesAt pins.pinsOf pins.assertsOf pins.firstEdge pins.secondEdge pins.withFirst pins.withSecond pins.firstPin pins.secondPin
     writePgcr writePsrr writePivr writeControl freshParallel parallelValidity.soundOf
     tinLevel freshC freshGate writeTcr writePreload soundGate

@@ -113,7 +113,7 @@
  * 110, or any of these in a port that isn't ready (enabled, with room for a byte in submode 00, with a full final
  * latch in 01) or not in mode 0, submode 00 or 01; under 110 a ready port without exactly one of wait and asserted
  * mark; a halted timer (TCR bit 0 clear, or source 01 with PC2's outside level low) whose prescaler isn't 31, with
- * ZDS set, the square wave low or no load due. pit_fresh makes no such device, and no call makes one of another.
+ * ZDS set, the square wave low or no load due. pit_fresh makes no such device, and no call turns another device into one.
  */
 #ifndef PIT_H
 #define PIT_H

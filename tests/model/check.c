@@ -1,5 +1,5 @@
 /* Tries the model on the lists of document 01, Lists to try (P1 to P12 and the pit-run example), on the
- * misreadings 01 warns of, and on single sentences of it. Prints nothing unless a check fails. */
+ * misreadings 01 warns of, and on single sentences of it and of document 02. Prints nothing unless a check fails. */
 #include "model.h"
 
 #include <stdio.h>
@@ -117,6 +117,38 @@ static void check_ports(void)
     expect("P12", device.port[0].held, 2);
 }
 
+/* 02, R-5: "Bit 2 says which pair goes first, bit 0 turns H1 and H2 round, bit 1 turns H3 and H4 round." Each status is
+ * acknowledged and then cleared, so that the next one answers. */
+static void check_orders(void)
+{
+    unsigned row, place;
+
+    for (row = 0; row < 8; row++) {
+        struct model_device device = model_fresh();
+        unsigned h12_at = row & 4u ? 2 : 0;
+        unsigned h34_at = 2 - h12_at;
+        unsigned order[4];
+
+        order[h12_at] = row & 1u ? 1 : 0;
+        order[h12_at + 1] = row & 1u ? 0 : 1;
+        order[h34_at] = row & 2u ? 3 : 2;
+        order[h34_at + 1] = row & 2u ? 2 : 3;
+        model_write(&device, MODEL_PIVR, 0x40);
+        model_write(&device, MODEL_PSRR, (uint8_t)(0x18 | row));
+        model_write(&device, MODEL_PACR, 0x86);
+        model_write(&device, MODEL_PBCR, 0x86);
+        model_write(&device, MODEL_PGCR, 0x30);
+        for (place = 0; place < 4; place++) {
+            pulse_pin(&device, MODEL_PIN_H1 + place);
+        }
+        for (place = 0; place < 4; place++) {
+            expect("R-5", model_port_acknowledge(&device), 0x40 + order[place]);
+            model_write(&device, MODEL_PSR, (uint8_t)(1u << order[place]));
+        }
+        expect("R-5, none left", model_port_acknowledge(&device), MODEL_SILENT);
+    }
+}
+
 static void check_program_example(void)
 {
     static const uint8_t list[] = {0x15, 0x01, 0x10, 0x01, 0xA0, 0x0F, 0xE7, 0x5C};
@@ -229,6 +261,7 @@ int main(void)
     check_formats();
     check_openings();
     check_ports();
+    check_orders();
     check_program_example();
     check_misreadings();
     check_handshakes();

@@ -195,7 +195,8 @@ static bool interrupts(const struct model_device *device, unsigned hand)
     return bit(control, hand % 2 == 0 ? 1 : 2) && status(device, hand);
 }
 
-/* 01, Interrupts: "Bits 2-0, highest first"; 4 where no enabled status is set. */
+/* 01, Interrupts: "Bits 2-0, highest first", the rows as 01 and 000's table 4.2 print them; 4 where no enabled status
+ * is set. */
 static unsigned highest_interrupt(const struct model_device *device)
 {
     static const uint8_t order[8][4] = {
@@ -216,6 +217,18 @@ static unsigned highest_interrupt(const struct model_device *device)
     }
     if (MISREAD(14) && (priority == 5 || priority == 6)) {
         priority = 11 - priority;
+    }
+    if (MISREAD(78)) {
+        priority = (priority & 3u) | (priority & 2u) << 1;
+    }
+    if (MISREAD(79)) {
+        priority = (priority & 4u) | (priority & 1u) << 1 | (priority & 2u) >> 1;
+    }
+    if (MISREAD(80) && priority >= 4) {
+        priority ^= 3u;
+    }
+    if (MISREAD(81)) {
+        priority &= priority >= 4 ? 6u : 5u;
     }
     for (place = 0; place < 4; place++) {
         if (interrupts(device, order[priority][place])) {

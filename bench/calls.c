@@ -14,7 +14,10 @@
 #define ROUNDS 15
 #define ROUND_CALLS 20000u
 
+#define INTERRUPTING (8 * 16) /* eight orders, each with every choice of four statuses */
+
 static uint8_t device[PIT_DEVICE_SIZE];
+static uint8_t interrupting[INTERRUPTING][PIT_DEVICE_SIZE];
 static uint32_t openings[8];
 static uint32_t opened;
 static volatile uint32_t answered;
@@ -57,6 +60,12 @@ static uint32_t call_reset(uint32_t random)
 static uint32_t call_port_acknowledge(uint32_t random)
 {
     return random + pit_port_acknowledge(device, sizeof device);
+}
+
+/* A port acknowledge that goes through an order: any of the eight, with any of the four statuses set. */
+static uint32_t call_vector(uint32_t random)
+{
+    return random + pit_port_acknowledge(interrupting[random % INTERRUPTING], sizeof device);
 }
 
 static uint32_t call_timer_acknowledge(uint32_t random)
@@ -117,6 +126,7 @@ static const struct {
     {"levels", call_levels},
     {"reset", call_reset},
     {"port_acknowledge", call_port_acknowledge},
+    {"vector", call_vector},
     {"timer_acknowledge", call_timer_acknowledge},
     {"valid", call_valid},
     {"write_data", call_write_data},
@@ -126,8 +136,28 @@ static const struct {
     {"give", call_give},
 };
 
+static void begin_interrupting(void)
+{
+    unsigned number, pin;
+
+    for (number = 0; number < INTERRUPTING; number++) {
+        uint8_t *each = interrupting[number];
+
+        pit_fresh(each, PIT_DEVICE_SIZE);
+        pit_write(each, PIT_DEVICE_SIZE, 0, 0x30); /* both pairs enabled */
+        pit_write(each, PIT_DEVICE_SIZE, 5, 0x40); /* PIVR */
+        pit_write(each, PIT_DEVICE_SIZE, 6, 0x86); /* both ports: submode 1X, both statuses interrupt */
+        pit_write(each, PIT_DEVICE_SIZE, 7, 0x86);
+        pit_write(each, PIT_DEVICE_SIZE, 1, (uint8_t)(0x18 | number / 16)); /* PIRQ, PIACK, the order */
+        for (pin = 0; pin < 4; pin++) {
+            pit_pin(each, PIT_DEVICE_SIZE, (uint8_t)(24 + pin), (number >> pin & 1) == 0); /* low sets its status */
+        }
+    }
+}
+
 static void begin(void)
 {
+    begin_interrupting();
     pit_fresh(device, sizeof device);
     pit_write(device, sizeof device, 0, 0x30); /* both pairs enabled */
     pit_write(device, sizeof device, 7, 0x40); /* port B: submode 01 */

@@ -47,6 +47,22 @@ each P (from n count x ∷ entries) other r base = λ h.
     (λ e. anyway P r entries (h (leb-true n r (and-left (leb n r) _ e)) (ltb-true r (n + count) (and-right (leb n r) _ e))))
     (λ e. each P entries other r (λ m. base ((λ f g. false≢true (sym e ∙ both (leb n r) _ (le-leb n r f) (lt-ltb r (n + count) g))), m)))
 
+-- a table with everything in it changed
+abbrev pub changed : {A B : Type 0} → (A → B) → List (Entry A) → List (Entry B)
+changed f [] = []
+changed f (at n x ∷ entries) = at n (f x) ∷ changed f entries
+changed f (from n count x ∷ entries) = from n count (λ i. f (x i)) ∷ changed f entries
+
+chosen : {A B : Type 0} (f : A → B) (test : Bool) (x y : A) (z : B) → f y ≡ z → f (if test then x else y) ≡ (if test then f x else z)
+chosen f true x y z e = refl
+chosen f false x y z e = e
+
+-- What is found, changed, is what is found in the changed table.
+pub find-changed : {A B : Type 0} (f : A → B) (entries : List (Entry A)) (other : A) (r : ℕ) → f (find entries other r) ≡ find (changed f entries) (f other) r
+find-changed f [] other r = refl
+find-changed f (at n x ∷ entries) other r = chosen f (eqb r n) x _ _ (find-changed f entries other r)
+find-changed f (from n count x ∷ entries) other r = chosen f (leb n r && ltb r (n + count)) (x (r - n)) _ _ (find-changed f entries other r)
+
 -- what the rest of a `match` knows: r is none of the single numbers
 abbrev pub None : {A : Type 0} → Type 0 → ℕ → List (Entry A) → Type 0
 None K r [] = K

@@ -6,7 +6,7 @@ use native.Mathlib.Nat.{sub-zero}
 use native.Mathlib.Omega.{arith}
 use borrow.Author.Tests.{le-leb, lt-ltb, le-ltb}
 use Rattle.event.specs.Map.{PA0, PB0, PC0, H1, H2, H3, H4, lines}
-use Rattle.bits.specs.Tables.{Entry, at, from, find, Each, Missed, each, None, past}
+use Rattle.bits.specs.Tables.{Entry, at, from, find, Each, Missed, each, find-changed, None, past}
 
 -- what stands beside each pin of a port by its place there, and beside each handshake pin
 abbrev pub pins : {A : Type 0} → (ℕ → A) → (ℕ → A) → (ℕ → A) → A → A → A → A → List (Entry A)
@@ -14,6 +14,12 @@ pins a b c h1 h2 h3 h4 = from PA0 lines a ∷ from PB0 lines b ∷ from PC0 line
 
 unfoldable pub pinned : {A : Type 0} → (ℕ → A) → (ℕ → A) → (ℕ → A) → A → A → A → A → A → ℕ → A
 pinned a b c h1 h2 h3 h4 other pin = find (pins a b c h1 h2 h3 h4) other pin
+
+-- What stands beside a pin, changed, is what stands beside it where everything is changed.
+pub pinned-changed : {A B : Type 0} (f : A → B) (a b c : ℕ → A) (h1 h2 h3 h4 other : A) (r : ℕ)
+    → f (pinned a b c h1 h2 h3 h4 other r) ≡ pinned (λ n. f (a n)) (λ n. f (b n)) (λ n. f (c n)) (f h1) (f h2) (f h3) (f h4) (f other) r
+unfolding pinned
+pinned-changed f a b c h1 h2 h3 h4 other r = find-changed f (pins a b c h1 h2 h3 h4) other r
 
 -- a number past the handshake pins' is of a port, or no pin's
 module _ {A : Type 0} (a b c : ℕ → A) (h1 h2 h3 h4 other : A) (r : ℕ) (rest : None (Unit {0}) r (pins a b c h1 h2 h3 h4)) where

@@ -7,6 +7,7 @@ pub mod GateAlone
 pub mod Undisturbed
 pub mod Formula
 pub mod Kinds
+pub mod Unseen
 pub mod Starting
 pub mod NeverOpens
 pub mod Calls

@@ -211,7 +211,9 @@ extern "C" {
 #define PIT_TIACK PIT_PC(7)
 
 /* Makes a fresh device: 0, or PIT_WRONG_SIZE. Every register is 0 but both vectors, which are 0F; latches, preload
- * and counter are 0, the prescaler 31, and every outside level is high. What the bytes held before doesn't matter. */
+ * and counter are 0, the prescaler 31; PC2's outside level is low, where TIN idles, and every other is high. So a program
+ * that runs the timer by TIN's level (source 01), or counts its rises, gives PC2 its level with pit_pin before it enables
+ * the timer. What the bytes held before doesn't matter. */
 uint32_t pit_fresh(uint8_t *device, size_t device_size);
 
 /* Whether pit_play would take the device: 1, or 0 where it would refuse it with 8; or PIT_WRONG_SIZE. */

@@ -394,11 +394,22 @@ static void put_preload(struct builder *builder, uint32_t preload)
     put_write(builder, MODEL_PRELOAD_LOW, (uint8_t)preload);
 }
 
+/* 02, R-6: "Each caller that starts from a fresh device states its level before enabling": a setup whose source is TIN,
+ * or is gated by it, states PC2. A change of a running timer (act_timer_change) and a write of anything do not, so that
+ * lists that leave it unstated are played too. */
+static void state_tin(struct builder *builder, unsigned tcr)
+{
+    if ((tcr & 0x06u) != 0) {
+        put_pin(builder, MODEL_PIN_TIN, !one_in(builder->random, 4));
+    }
+}
+
 static void act_timer_setup(struct builder *builder)
 {
     unsigned tcr = generate_below(builder->random, 128) << 1;
 
     put_preload(builder, telling_count(builder->random));
+    state_tin(builder, tcr);
     put_write(builder, MODEL_TCR, (uint8_t)(tcr | 1u));
 }
 
@@ -412,9 +423,7 @@ static void act_timer_run(struct builder *builder)
     tcr |= one_in(random, 4) ? 0x10u : 0u;
     tcr |= one_in(random, 2) ? 0x02u : 0u;
     put_preload(builder, generate_below(random, 4));
-    if (one_in(random, 3)) {
-        put_pin(builder, MODEL_PIN_TIN, true);
-    }
+    state_tin(builder, tcr);
     put_write(builder, MODEL_TCR, (uint8_t)tcr);
     while (rounds-- > 0) {
         uint32_t further = generate_below(random, 2);

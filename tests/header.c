@@ -486,6 +486,8 @@ static void any_address(void)
     for (at = 0; at < ROOM; at++) {
         memcpy(lists + at, first, sizeof first);
         expect("fresh at any address", pit_fresh(room + at, PIT_DEVICE_SIZE), 0);
+        expect("levels of a fresh device, PC2 alone low", pit_levels(room + at, PIT_DEVICE_SIZE),
+               0xFFFFFFFu ^ 1u << PIT_TIN);
         expect("a list at any address",
                pit_play(room + at, PIT_DEVICE_SIZE, lists + at, sizeof first, answers, ROOM, openings, ROOM, totals,
                         PIT_TOTALS),
@@ -495,7 +497,8 @@ static void any_address(void)
         pit_pin(room + at, PIT_DEVICE_SIZE, PIT_H1, 0);
         pit_clocks(room + at, PIT_DEVICE_SIZE, 100, 128, openings, ROOM, &opened);
         expect("a byte at any address", pit_read(room + at, PIT_DEVICE_SIZE, PIT_PADR), 0xFF);
-        expect("levels at any address", pit_levels(room + at, PIT_DEVICE_SIZE), 0xEFFFFFFu);
+        expect("levels at any address, H1 low too", pit_levels(room + at, PIT_DEVICE_SIZE),
+               0xFFFFFFFu ^ 1u << PIT_TIN ^ 1u << PIT_H1);
         expect("a port acknowledge at any address", pit_port_acknowledge(room + at, PIT_DEVICE_SIZE), PIT_SILENT);
         expect("a timer acknowledge at any address", pit_timer_acknowledge(room + at, PIT_DEVICE_SIZE), PIT_SILENT);
         expect("a valid device at any address", pit_valid(room + at, PIT_DEVICE_SIZE), 1);

@@ -149,6 +149,36 @@ static void check_orders(void)
     }
 }
 
+/* 02, R-6: "A fresh device should hold PC2's outside level low and all other levels high." A reset keeps what came since;
+ * and a setup script for run/halt gating opens as before where it states PC2 high before enabling, and never where it
+ * doesn't. */
+static void check_idle_levels(void)
+{
+    struct model_device device = model_fresh();
+    unsigned pin;
+
+    for (pin = 0; pin < MODEL_PINS; pin++) {
+        expect("R-6, a fresh level", model_level(&device, pin), pin != MODEL_PIN_TIN);
+    }
+    (void)model_pin(&device, MODEL_PIN_TIN, true);
+    model_reset(&device);
+    expect("R-6, a level kept by reset", model_read(&device, MODEL_DATA_C), 0xFF);
+    (void)model_pin(&device, MODEL_PIN_TIN, false);
+    model_reset(&device);
+    expect("R-6, a low level kept by reset", model_read(&device, MODEL_DATA_C), 0xFB);
+    device = timer_started(1, 0x03);
+    expect("R-6, PC2 not stated", pass_clocks(&device, 256), 0);
+    (void)model_pin(&device, MODEL_PIN_TIN, true);
+    expect("R-6, the first trigger is a rise", pass_clocks(&device, 63), 0);
+    expect("R-6, the first trigger is a rise", pass_clocks(&device, 1), 1);
+    device = model_fresh();
+    (void)model_pin(&device, MODEL_PIN_TIN, true);
+    model_write(&device, MODEL_PRELOAD_LOW, 1);
+    model_write(&device, MODEL_TCR, 0x03);
+    expect("R-6, PC2 stated high", pass_clocks(&device, 63), 0);
+    expect("R-6, PC2 stated high", pass_clocks(&device, 1), 1);
+}
+
 static void check_program_example(void)
 {
     static const uint8_t list[] = {0x15, 0x01, 0x10, 0x01, 0xA0, 0x0F, 0xE7, 0x5C};
@@ -182,7 +212,7 @@ static void check_misreadings(void)
 
     device = model_fresh();
     expect("fresh PSR", model_read(&device, MODEL_PSR), 0xF0);
-    expect("fresh data C", model_read(&device, MODEL_DATA_C), 0xFF);
+    expect("fresh data C", model_read(&device, MODEL_DATA_C), 0xFB);
     expect("fresh alternate", model_read(&device, MODEL_ALTERNATE_A), 0xFF);
     expect("fresh PIVR", model_read(&device, MODEL_PIVR), 0x0F);
     model_write(&device, MODEL_PIVR, 0x0F);
@@ -262,6 +292,7 @@ int main(void)
     check_openings();
     check_ports();
     check_orders();
+    check_idle_levels();
     check_program_example();
     check_misreadings();
     check_handshakes();

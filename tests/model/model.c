@@ -1,4 +1,5 @@
-/* The model follows document 01 paragraph by paragraph; a comment names the paragraph a rule stands in.
+/* The model follows document 01 paragraph by paragraph; a comment names the paragraph a rule stands in, and the
+ * request of 02 where one has changed it.
  * "01, read as" marks a sentence of 01 that can be read in two ways, with the reading taken. */
 #include "model.h"
 
@@ -1119,20 +1120,28 @@ MODEL_LINKAGE void model_reset(struct model_device *device)
         }
     }
     device->c_direction = 0;
+    if (MISREAD(84)) {
+        device->outside[2] &= (uint8_t)~(1u << (MODEL_PIN_TIN - MODEL_PIN_C));
+    }
     device->tcr = 0;
     device->tivr = VECTOR_AT_RESET;
     halt(device);
 }
 
 /* 01, A fresh device: "Every register zero, except both vector registers 0F; latches, preload and counter
- * zero; prescaler 31; every outside level high". */
+ * zero; prescaler 31"; and 02, R-6, where 01 had every outside level high: "A fresh device should hold PC2's outside
+ * level low and all other levels high." */
 MODEL_LINKAGE struct model_device model_fresh(void)
 {
+    unsigned idle_low = MISREAD(83) ? MODEL_PIN_TIN + 1 : MODEL_PIN_TIN;
     struct model_device device;
 
     memset(&device, 0, sizeof device);
     device.prescaler = PRESCALER_FULL;
     memset(device.outside, 0xFF, sizeof device.outside);
+    if (!MISREAD(82)) {
+        device.outside[idle_low / 8] ^= (uint8_t)(1u << idle_low % 8);
+    }
     device.outside_hand[0] = true;
     device.outside_hand[1] = true;
     device.outside_hand[2] = true;

@@ -1,6 +1,7 @@
-/* A plain model of the MC68230, one clock at a time, written from document 01 (and the data sheet, document
- * 000, where 01 is silent) and from nothing else. It is what the library is compared with, so it is slow
- * and simple on purpose: every rule stands where 01 states it, and nothing is worked out by arithmetic. */
+/* A plain model of the MC68230, one clock at a time, written from document 01, the requests of 02 that are in (and
+ * the data sheet, document 000, where they are silent) and from nothing else. It is what the library is compared
+ * with, so it is slow and simple on purpose: every rule stands where 01 states it, and nothing is worked out by
+ * arithmetic. */
 #ifndef MODEL_H
 #define MODEL_H
 

@@ -1,15 +1,15 @@
 -- Sentences of 01, 'A fresh device', and PIVR until it is written ('Registers'), each a theorem of its own.
 use mathlib.Core.Path.{_≡_, refl}
-use mathlib.Core.Bool.{Bool}
+use mathlib.Core.Bool.{Bool, false, not, Bool·beq}
 use mathlib.Core.List.{List, [], _∷_}
-use Prim.Native.Nat.{ℕ, zero, suc, _<_}
+use Prim.Native.Nat.{ℕ, zero, suc, _+_, _<_}
 use lib.Dec.{eqb}
 use borrow.Author.Tests.{eqb-true}
-use Rattle.bits.specs.Choice.{branch}
+use Rattle.bits.specs.Choice.{branch, beq-true}
 use Rattle.bits.specs.Field.{bitOf, fieldOf, chosenOf, packedOf}
 use Rattle.bits.specs.Tables.{Entry, at, find, each}
 use Rattle.bits.specs.Trying.{any-below}
-use Rattle.event.specs.Map.{PIVR, PAAR, PBAR, PCDR, PSR, TIVR}
+use Rattle.event.specs.Map.{PIVR, PAAR, PBAR, PCDR, PSR, TIVR, PC0}
 use Rattle.event.specs.declared.Event.{Event}
 use Rattle.event.specs.declared.Event.the-variants.{Write, Read, PortAcknowledge, TimerAcknowledge, Pin, Clocks, Reset}
 use Rattle.interrupt.specs.Enabling.{dmaOf, enabledIn}
@@ -24,7 +24,7 @@ use Rattle.port.specs.declared.Pair.the-variants.{H12, H34}
 use Rattle.port.specs.declared.Port.{Port}
 use Rattle.port_c.specs.Fresh.{freshC, resetC}
 use Rattle.port_c.specs.Parts.{withLatch, withOutside as withOutsideC}
-use Rattle.port_c.specs.Pins.{plainPin, tinPin, toutPin, dmareqPin, pirqPin, piackPin, tiackPin, shownOf, dataOf}
+use Rattle.port_c.specs.Pins.{tin, plainPin, tinPin, toutPin, dmareqPin, pirqPin, piackPin, tiackPin, shownOf, dataOf}
 use Rattle.timer.specs.Control.{sourceOf, functionOf}
 use Rattle.timer.specs.Parts.{withPreload, withCount}
 use Rattle.timer.specs.Registers.{byteOf, toutOf, freshTimer, resetOf as resetTimer}
@@ -43,16 +43,16 @@ use Rattle.device.specs.Clocking.{clockedDevice, after}
 use Rattle.device.specs.Events.{effect, made}
 use Rattle.device.specs.Fresh.{freshDevice, resetOf}
 use Rattle.device.specs.Parts.{deviceWith}
-use Rattle.device.specs.Pinned.{any-pin}
+use Rattle.device.specs.Pinned.{pinned as byPin, any-pin}
 use Rattle.device.specs.Pins.{pinsC, gated, pinOf}
 use Rattle.device.specs.Registers.{readOf, writes, writeOf}
 use Rattle.device.specs.declared.Device.{Device}
 use Rattle.device.specs.declared.Stepped.{Stepped}
 use Rattle.laws.specs.Reads.{any-read}
 
--- both vector registers 0F; alternates and data C read the pins, whose outside levels are high, and PSR the levels of H4-H1
+-- both vector registers 0F; alternates and data C read the pins, whose outside levels are high but PC2's, and PSR the levels of H4-H1
 abbrev pub freshBytes : List (Entry ℕ)
-freshBytes = at PIVR 0x0f ∷ at TIVR 0x0f ∷ at PAAR 0xff ∷ at PBAR 0xff ∷ at PCDR 0xff ∷ at PSR 0xf0 ∷ []
+freshBytes = at PIVR 0x0f ∷ at TIVR 0x0f ∷ at PAAR 0xff ∷ at PBAR 0xff ∷ at PCDR 0xfb ∷ at PSR 0xf0 ∷ []
 
 -- 'Every register zero, except both vector registers 0F': what each of the 32 numbers reads on a fresh device.
 pub fresh-reads : (r : ℕ) → r < 32 → readOf freshDevice r .byte ≡ find freshBytes 0 r
@@ -62,6 +62,22 @@ unfolding
     pinsOf readData drawnBy drawnOf firstStatusOf secondStatusOf statusesOf interruptsOf psrOf secondLevel dmaOf enabledIn plainPin tinPin toutPin dmareqPin pirqPin piackPin tiackPin shownOf
     dataOf pinsC
 fresh-reads r l = eqb-true _ _ (any-below 32 (λ r. eqb (readOf freshDevice r .byte) (find freshBytes 0 r)) refl r l)
+
+-- the outside level that is remembered of each of the 28 pins
+unfoldable pub outsideOf : Device → ℕ → Bool
+outsideOf d =
+    let p = d .parallel in
+    byPin (bitOf (p .a .outside)) (bitOf (p .b .outside)) (bitOf (d .gate .c .outside)) (p .h12 .level1) (p .h12 .level2) (p .h34 .level1) (p .h34 .level2) false
+
+-- 02, R-6: 'A fresh device should hold PC2's outside level low and all other levels high.'
+pub fresh-levels : (n : ℕ) → n < 28 → outsideOf freshDevice n ≡ not (eqb n (PC0 + tin))
+unfolding outsideOf byPin freshDevice freshParallel freshPort freshLink freshGate freshC bitOf
+fresh-levels n l = beq-true _ _ (any-below 28 (λ n. Bool·beq (outsideOf freshDevice n) (not (eqb n (PC0 + tin)))) refl n l)
+
+-- Reset keeps every outside level, PC2's too, of every device.
+pub reset-levels : (d : Device) (n : ℕ) → outsideOf (resetOf d) n ≡ outsideOf d n
+unfolding outsideOf resetOf resetParallel resetPort resetLink resetGate resetC
+reset-levels d n = refl
 
 -- a port and a pair with another's data latches, last byte read and outside levels
 abbrev keepingPort : Port → Port → Port

@@ -1,17 +1,17 @@
-// A fresh port C, and reset (01, 'A fresh device').
+// A fresh port C, and reset (01, 'A fresh device'; 02, R-6).
 use crate::PortC;
 ghost use mathlib.Core.Path.{_≡_};
 ghost use Rattle.port_c.specs.Fresh.{freshC, resetC};
 
 impl PortC {
-    // A fresh port C: every outside level high.
+    // A fresh port C: PC2's outside level low, all others high.
     pub fn fresh() -> PortC
         ensures { λ r. ⌜ r ≡ freshC ⌝ }
     {
         PortC {
             direction: 0,
             latch: 0,
-            outside: 0xff,
+            outside: 0xfb,
         }
     }
 

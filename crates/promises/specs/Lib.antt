@@ -13,4 +13,5 @@ pub mod NeverOpens
 pub mod Calls
 pub mod Again
 pub mod Lists
+pub mod TinIdles
 pub mod Examples

@@ -5,7 +5,7 @@ use mathlib.Core.Bool.{Bool, true, false, _&&_, false≢true}
 use mathlib.Core.List.{List, [], _∷_}
 use borrow.Author.Tests.{eqb-true, leb-true, ltb-true, eq-eqb, ne-eqb, le-leb, lt-ltb}
 use lib.Dec.{eqb, leb, ltb}
-use Rattle.bits.specs.Choice.{if_then_else_, branch, and-left, and-right, both}
+use Rattle.bits.specs.Choice.{if_then_else_, branch, both-arms, and-left, and-right, both}
 
 -- one number; or some in turn from a first one on, each by its place among them
 pub data Entry (A : Type 0) : Type 0 where
@@ -53,15 +53,11 @@ changed f [] = []
 changed f (at n x ∷ entries) = at n (f x) ∷ changed f entries
 changed f (from n count x ∷ entries) = from n count (λ i. f (x i)) ∷ changed f entries
 
-chosen : {A B : Type 0} (f : A → B) (test : Bool) (x y : A) (z : B) → f y ≡ z → f (if test then x else y) ≡ (if test then f x else z)
-chosen f true x y z e = refl
-chosen f false x y z e = e
-
 -- What is found, changed, is what is found in the changed table.
 pub find-changed : {A B : Type 0} (f : A → B) (entries : List (Entry A)) (other : A) (r : ℕ) → f (find entries other r) ≡ find (changed f entries) (f other) r
 find-changed f [] other r = refl
-find-changed f (at n x ∷ entries) other r = chosen f (eqb r n) x _ _ (find-changed f entries other r)
-find-changed f (from n count x ∷ entries) other r = chosen f (leb n r && ltb r (n + count)) (x (r - n)) _ _ (find-changed f entries other r)
+find-changed f (at n x ∷ entries) other r = both-arms (λ y z. f y ≡ z) (eqb r n) _ _ _ _ refl (find-changed f entries other r)
+find-changed f (from n count x ∷ entries) other r = both-arms (λ y z. f y ≡ z) (leb n r && ltb r (n + count)) _ _ _ _ refl (find-changed f entries other r)
 
 -- what the rest of a `match` knows: r is none of the single numbers
 abbrev pub None : {A : Type 0} → Type 0 → ℕ → List (Entry A) → Type 0

@@ -1,13 +1,13 @@
 -- The openings of a whole call: which numbers stand in the lent row (01, 'The event list', 'Timer').
 use Prim.Native.Nat.{ℕ}
-use mathlib.Core.Bool.{Bool, true, false}
+use mathlib.Core.Bool.{true}
 use mathlib.Core.List.{List, []}
 use mathlib.Core.Path.{_≡_, refl, sym, ap, _∙_}
 use native.Mathlib.Omega.{arith}
 use lib.Dec.{ltb}
 use lib.ListN.{length, drop}
 use lib.Seq.{take-append-seam}
-use Rattle.bits.specs.Choice.{if_then_else_}
+use Rattle.bits.specs.Choice.{both-arms}
 use Rattle.event.specs.declared.Event.{Event}
 use Rattle.clocks.specs.NeverOpens.{Barren}
 use Rattle.wire.specs.List.{Parsed, events, refused, parsed}
@@ -85,11 +85,6 @@ pub record SameRow (x y : Result) : Type 0 where
   pub total : x .outcome .openings ≡ y .outcome .openings
   pub row : x .openings ≡ y .openings
 
--- two choices by the same test
-by-test : (b : Bool) (x y x′ y′ : Result) → SameRow x x′ → SameRow y y′ → SameRow (if b then x else y) (if b then x′ else y′)
-by-test true x y x′ y′ h i = h
-by-test false x y x′ y′ h i = i
-
 -- two devices that agree in the timer and in TIN's level, and the same list
 module _ (s : List ℕ) (c d : Device) (same : Agree (d .gate) (c .gate)) where
   -- Where both calls are accepted they store the same numbers, whatever was lent, and whatever the ports, the other pins and the other
@@ -119,6 +114,6 @@ module _ (s : List ℕ) (c d : Device) (same : Agree (d .gate) (c .gate)) where
       settled-alike (refused r p) = refused-alike r p
       settled-alike (events es) =
           rw (answers-needed c 0 es, answers-needed d 0 es, gate-alone es c d 0 same)
-          (by-test (ltb (length answers) (needsOf es .answers)) _ _ _ _ (refused-alike 6 0)
-          (by-test (ltb (length openings) (length (made d 0 es .openings))) _ _ _ _ (refused-alike 7 0)
+          (both-arms SameRow (ltb (length answers) (needsOf es .answers)) _ _ _ _ (refused-alike 6 0)
+          (both-arms SameRow (ltb (length openings) (length (made d 0 es .openings))) _ _ _ _ (refused-alike 7 0)
           (record { refusal = refl; place = refl; total = refl; row = refl })))

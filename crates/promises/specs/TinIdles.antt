@@ -8,7 +8,7 @@ use borrow.Author.Tests.{eqb-true, ne-eqb}
 use native.Mathlib.Omega.{arith}
 use lib.Dec.{eqb, ltb}
 use lib.ListN.{length}
-use Rattle.bits.specs.Choice.{if_then_else_}
+use Rattle.bits.specs.Choice.{both-arms}
 use Rattle.bits.specs.Field.{bitOf, withBit, packedOf, fieldOf}
 use Rattle.bits.specs.Trying.{any-below}
 use Rattle.event.specs.declared.Event.{Event}
@@ -150,10 +150,6 @@ pub record Alike (R : Device → Device → Type 0) (x y : Result) : Type 0 wher
   pub device : x .outcome .refusal ≡ 0 → R (x .outcome .device) (y .outcome .device)
 
 module _ (R : Device → Device → Type 0) (c d : Device) (answers openings : List ℕ) where
-  by-test : (b : Bool) (x y x′ y′ : Result) → Alike R x x′ → Alike R y y′ → Alike R (if b then x else y) (if b then x′ else y′)
-  by-test true x y x′ y′ h i = h
-  by-test false x y x′ y′ h i = i
-
   refused-alike : (r : ℕ) → (r ≡ 0 → ⊥) → Alike R (refusal c answers openings r 0) (refusal d answers openings r 0)
   refused-alike r some =
       record { refusal = refl; place = refl; answered = refl; opened = refl; clocks = refl; bytes = refl; row = refl; device = λ e. absurd (some e) }
@@ -162,8 +158,8 @@ module _ (R : Device → Device → Type 0) (c d : Device) (answers openings : L
       → Alike R (settled c answers openings m) (settled d answers openings n)
   settled-alike m n a o k devices =
       rw (a, o)
-      (by-test (ltb (length answers) (length (n .answers))) _ _ _ _ (refused-alike 6 (λ e. omega (arith, e)))
-      (by-test (ltb (length openings) (length (n .openings))) _ _ _ _ (refused-alike 7 (λ e. omega (arith, e)))
+      (both-arms (Alike R) (ltb (length answers) (length (n .answers))) _ _ _ _ (refused-alike 6 (λ e. omega (arith, e)))
+      (both-arms (Alike R) (ltb (length openings) (length (n .openings))) _ _ _ _ (refused-alike 7 (λ e. omega (arith, e)))
       (record { refusal = refl; place = refl; answered = refl; opened = refl; clocks = k; bytes = refl; row = refl; device = λ _. devices })))
 
   -- two lists on two valid devices, whose events make the same

@@ -119,6 +119,34 @@ static void handshake_list(struct generate_list *list, size_t bytes)
     list->size = filled_up(&writer, bytes);
 }
 
+/* A sample on TIN: a rise, the clock that takes it, and a fall. */
+static void sample(struct writer *writer)
+{
+    writer_pin(writer, MODEL_PIN_TIN, 1);
+    writer_clocks(writer, 1);
+    writer_pin(writer, MODEL_PIN_TIN, 0);
+}
+
+#define SAMPLE_BITS (2 * MODEL_PIN_BITS + MODEL_CLOCKS_BITS)
+
+/* Samples counted directly, source 11, and from the middle on through the prescaler, source 10. */
+static void sample_list(struct generate_list *list, size_t bytes)
+{
+    struct writer writer = begin(list);
+
+    writer_pin(&writer, MODEL_PIN_TIN, 0);
+    writer_write(&writer, MODEL_PRELOAD_LOW, 3);
+    writer_write(&writer, MODEL_TCR, 0x07);
+    while (writer_fits(&writer, SAMPLE_BITS, bytes / 2)) {
+        sample(&writer);
+    }
+    writer_write(&writer, MODEL_TCR, 0x05);
+    while (writer_fits(&writer, SAMPLE_BITS, bytes)) {
+        sample(&writer);
+    }
+    list->size = filled_up(&writer, bytes);
+}
+
 /* Thirty-two bytes: set up, a few transfers and reads, and some clocks of the timer. */
 static void short_list(struct generate_random *random, struct generate_list *list)
 {
@@ -330,6 +358,9 @@ static void table_of_traffic(void)
     for (number = 0; number < SHORT_LISTS; number++) {
         short_list(&random, &work.list[number]);
     }
+    print_row();
+    begin_work("f", "a sample clock on TIN, sources 11 and 10, 16,384 bytes", 1);
+    sample_list(&work.list[0], MODEL_LIST_MOST);
     print_row();
 }
 

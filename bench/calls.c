@@ -18,6 +18,7 @@
 
 static uint8_t device[PIT_DEVICE_SIZE];
 static uint8_t interrupting[INTERRUPTING][PIT_DEVICE_SIZE];
+static uint8_t sampling[PIT_DEVICE_SIZE];
 static uint32_t openings[8];
 static uint32_t opened;
 static volatile uint32_t answered;
@@ -114,6 +115,15 @@ static uint32_t call_give(uint32_t random)
     return random + sum + pit_pin(device, sizeof device, 26, 1);
 }
 
+/* A sample on TIN, counted with source 11: a rise, the clock that takes it, and a fall. */
+static uint32_t call_sample(uint32_t random)
+{
+    uint32_t sum = pit_pin(sampling, sizeof sampling, PIT_TIN, 1);
+
+    sum += pit_clocks(sampling, sizeof sampling, 1, 0, openings, 8, &opened);
+    return random + sum + pit_pin(sampling, sizeof sampling, PIT_TIN, 0);
+}
+
 static const struct {
     const char *name;
     uint32_t (*call)(uint32_t random);
@@ -134,6 +144,7 @@ static const struct {
     {"h1", call_h1},
     {"take", call_take},
     {"give", call_give},
+    {"sample", call_sample},
 };
 
 static void begin_interrupting(void)
@@ -155,9 +166,17 @@ static void begin_interrupting(void)
     }
 }
 
+static void begin_sampling(void)
+{
+    pit_fresh(sampling, sizeof sampling);
+    pit_write(sampling, sizeof sampling, PIT_CPRL, 3);
+    pit_write(sampling, sizeof sampling, PIT_TCR, 0x07); /* rises of TIN direct, reload, run */
+}
+
 static void begin(void)
 {
     begin_interrupting();
+    begin_sampling();
     pit_fresh(device, sizeof device);
     pit_write(device, sizeof device, 0, 0x30); /* both pairs enabled */
     pit_write(device, sizeof device, 7, 0x40); /* port B: submode 01 */

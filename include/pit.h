@@ -55,8 +55,9 @@
  *   43  square wave is high        44  a load is due
  *   45-47  outside levels of PA, PB, PC, bit n for pin n
  *   48-51  outside levels of H1, H2, H3, H4, a flag each
+ *   52  a rise of TIN is held
  *
- * The flags are bytes 13, 14, 15, 26, 27, 28, 42, 43, 44 and 48 to 51. A flag is 0 or 1; any other value is read as
+ * The flags are bytes 13, 14, 15, 26, 27, 28, 42, 43, 44 and 48 to 52. A flag is 0 or 1; any other value is read as
  * 1. A call that may change the device (one that takes it without const) and answers neither a refusal nor
  * PIT_WRONG_SIZE writes each flag back as 0 or 1: it makes 1 of a flag of 2 to 255, also where nothing else happens.
  * Nothing else is normalised: values out of range stay as they are until something happens to the field.
@@ -85,9 +86,19 @@
  * and 0 for an acknowledge that the part did not respond to. A read always responds, with 1 and 0 for a register
  * that is none.
  *
- * An opening is the counter's step from 1 to 0. Its number is how many clocks of this list had passed, the one that
- * opened counted in; an opening between clocks, by an edge of TIN, has the number passed so far. Reset does not
- * turn the number back. The next list's numbers begin anew.
+ * An opening is the counter's step from 1 to 0, and falls only on a clock. Its number is how many clocks of this list
+ * had passed, the one that opened counted in, so the numbers of a list rise strictly. Reset does not turn the number
+ * back. The next list's numbers begin anew.
+ *
+ *
+ * A rise of TIN
+ *
+ * With source 10 or 11 (TCR bits 2-1) and TCR bit 0 set the timer counts rises of TIN, outside levels that change PC2
+ * from low to high. A rise is held, and the next clock takes it, as one step however many there were: two rises in one
+ * clock period count once. Count, prescaler and ZDS don't move before that clock, and the step goes by the preload and
+ * TCR bit 4 as they stand then. A fall doesn't take the rise back, and of many clocks at once the first takes it. A
+ * halt (TCR bit 0 cleared), a reset or another source drops it; a write of TCR with the same source and bit 0 set keeps
+ * it. While the timer is halted none is held.
  *
  *
  * Refusals of pit_play, and their place in bits from the start of the list
@@ -113,7 +124,8 @@
  * 110, or any of these in a port that isn't ready (enabled, with room for a byte in submode 00, with a full final
  * latch in 01) or not in mode 0, submode 00 or 01; under 110 a ready port without exactly one of wait and asserted
  * mark; a halted timer (TCR bit 0 clear, or source 01 with PC2's outside level low) whose prescaler isn't 31, with
- * ZDS set, the square wave low or no load due. pit_fresh makes no such device, and no call turns another device into one.
+ * ZDS set, the square wave low, no load due or a rise of TIN held; a rise of TIN held with source 00 or 01. pit_fresh
+ * makes no such device, and no call turns another device into one.
  */
 #ifndef PIT_H
 #define PIT_H
@@ -125,7 +137,7 @@
 extern "C" {
 #endif
 
-#define PIT_DEVICE_SIZE 52u
+#define PIT_DEVICE_SIZE 53u
 #define PIT_VERSION PIT_DEVICE_SIZE
 
 /* No call takes more bytes of stack, return address and arguments on the stack counted in. */
@@ -211,9 +223,9 @@ extern "C" {
 #define PIT_TIACK PIT_PC(7)
 
 /* Makes a fresh device: 0, or PIT_WRONG_SIZE. Every register is 0 but both vectors, which are 0F; latches, preload
- * and counter are 0, the prescaler 31; PC2's outside level is low, where TIN idles, and every other is high. So a program
- * that runs the timer by TIN's level (source 01), or counts its rises, gives PC2 its level with pit_pin before it enables
- * the timer. What the bytes held before doesn't matter. */
+ * and counter are 0, the prescaler 31, no rise is held; PC2's outside level is low, where TIN idles, and every other is
+ * high. So a program that runs the timer by TIN's level (source 01), or counts its rises, gives PC2 its level with
+ * pit_pin before it enables the timer. What the bytes held before doesn't matter. */
 uint32_t pit_fresh(uint8_t *device, size_t device_size);
 
 /* Whether pit_play would take the device: 1, or 0 where it would refuse it with 8; or PIT_WRONG_SIZE. */
@@ -240,8 +252,9 @@ uint32_t pit_write(uint8_t *device, size_t device_size, uint8_t number, uint8_t 
  * over 31, read 0. */
 uint32_t pit_read(uint8_t *device, size_t device_size, uint8_t number);
 
-/* An outside level, 0 or 1 (any other value is 1), comes to a pin: 1 where that opened the gate, else 0; or
- * PIT_WRONG_SIZE. A pin over 27 is none: flags are written back as 0 or 1, and all other bytes stay. */
+/* An outside level, 0 or 1 (any other value is 1), comes to a pin: 0, or PIT_WRONG_SIZE. It opens nothing: a rise of
+ * TIN takes effect at the next clock. A pin over 27 is none: flags are written back as 0 or 1, and all other bytes
+ * stay. */
 uint32_t pit_pin(uint8_t *device, size_t device_size, uint8_t pin, uint8_t level);
 
 /* Passes clocks, numbered on from the clocks passed before. Answers 0, with how many of them opened the gate at
@@ -252,7 +265,8 @@ uint32_t pit_clocks(uint8_t *device, size_t device_size, uint32_t clocks, uint32
                     uint32_t *openings, size_t openings_count, uint32_t *opened);
 
 /* Resets the part: 0, or PIT_WRONG_SIZE. Control, direction and vector registers, status and handshakes are as in a
- * fresh device; data latches, the last byte read, preload, counter and outside levels stay. */
+ * fresh device, and a held rise of TIN is dropped; data latches, the last byte read, preload, counter and outside
+ * levels stay. */
 uint32_t pit_reset(uint8_t *device, size_t device_size);
 
 /* Acknowledges a port or timer interrupt, which changes nothing: the vector, PIT_SILENT or PIT_WRONG_SIZE. */

@@ -369,8 +369,8 @@ static void event_both(uint8_t *device, struct model_device *model, const struct
         same_number("byte read", pit_read(device, PIT_DEVICE_SIZE, number), model_read(model, number));
         break;
     case MODEL_PIN:
-        same_number("opening of a pin event", pit_pin(device, PIT_DEVICE_SIZE, number, value),
-                    model_pin(model, number, value != 0));
+        same_number("answer of a pin event", pit_pin(device, PIT_DEVICE_SIZE, number, value), 0);
+        model_pin(model, number, value != 0);
         break;
     case MODEL_CLOCKS:
         counts.openings += clocks_both(device, model, event->clocks, passed, passed % 5 == 1 ? 1 : 2048);
@@ -463,7 +463,7 @@ static struct model_event any_event(struct generate_random *random, const struct
         break;
     default:
         event.kind = MODEL_WRITE;
-        event.number = generate_below(random, MODEL_REGISTERS);
+        event.number = generate_below(random, 4) == 0 ? MODEL_TCR : generate_below(random, MODEL_REGISTERS);
         event.value = any_value(random, model, event.number);
         break;
     }
@@ -565,6 +565,20 @@ static void count_refusal(unsigned refusal)
     counts.refusals[refusal]++;
 }
 
+/* 02, R-2: "an opening now falls only on a clock, so numbers rise strictly". */
+static void rising_openings(const uint32_t *library, uint64_t used)
+{
+    uint64_t place;
+
+    for (place = 1; place < used; place++) {
+        if (library[place] <= library[place - 1]) {
+            begin_report("opening %" PRIu64 " is at %" PRIu32 ", after one at %" PRIu32, place, library[place],
+                         library[place - 1]);
+            end_report();
+        }
+    }
+}
+
 static struct model_totals compare_play(const uint8_t *handed, const struct generate_list *list,
                                         struct generate_rooms rooms)
 {
@@ -591,6 +605,7 @@ static struct model_totals compare_play(const uint8_t *handed, const struct gene
     same_openings("openings", library_openings, model_openings, rooms.openings + GUARD);
     if (refusal == MODEL_ACCEPTED) {
         same_device("after the list", device, &model);
+        rising_openings(library_openings, totals[PIT_OPENINGS]);
     } else {
         same_device_bytes("after a refusal", device, handed);
         same_filling(&rooms);
@@ -805,6 +820,25 @@ static void clock_numbers_wrap(void)
     same_device("after 300,000 clocks", device, &model);
 }
 
+/* pit.h: of many clocks at once the first takes a held rise of TIN; here its number is past 2^32. No clocks take none. */
+static void held_rise_wraps(void)
+{
+    struct model_device model = model_fresh();
+    uint8_t device[PIT_DEVICE_SIZE];
+
+    model_write(&model, MODEL_PRELOAD_LOW, 1);
+    model_write(&model, MODEL_TCR, 7);
+    model_pin(&model, MODEL_PIN_TIN, true);
+    (void)model_clock(&model);
+    model_pin(&model, MODEL_PIN_TIN, false);
+    model_pin(&model, MODEL_PIN_TIN, true);
+    model_to_bytes(&model, device);
+    same_number("openings of no clocks, a rise held", clocks_both(device, &model, 0, 7, 4), 0);
+    same_device("after no clocks, a rise held", device, &model);
+    same_number("openings of many clocks, a rise held", clocks_both(device, &model, 300000, 0xFFFFFFFFu, 4), 1);
+    same_device("after many clocks, a rise held", device, &model);
+}
+
 static void compare_outlying(void)
 {
     static const size_t sizes[] = {0, 1, PIT_DEVICE_SIZE - 1, PIT_DEVICE_SIZE + 1, 2 * PIT_DEVICE_SIZE};
@@ -820,6 +854,7 @@ static void compare_outlying(void)
     wrong_totals(PIT_TOTALS + 1);
     outlying_numbers();
     clock_numbers_wrap();
+    held_rise_wraps();
 }
 
 /* ---- Long runs ---- */

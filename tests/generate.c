@@ -161,7 +161,7 @@ static void put_pin(struct builder *builder, unsigned pin, bool level)
 {
     if (has_room(builder, MODEL_PIN_BITS)) {
         writer_pin(&builder->writer, pin, level);
-        (void)model_pin(&builder->device, pin, level);
+        model_pin(&builder->device, pin, level);
     }
 }
 
@@ -458,17 +458,116 @@ static void act_timer_restart(struct builder *builder)
     put_clocks(builder, clocks_to_opening(&builder->device) + generate_below(builder->random, 2));
 }
 
+static bool tin_is_high(const struct model_device *device)
+{
+    return (device->outside[2] & 4) != 0;
+}
+
+/* Edges of TIN, most of them with a clock between, since a clock takes one rise at most. */
 static void act_tin(struct builder *builder)
 {
-    unsigned many = 1 + generate_below(builder->random, one_in(builder->random, 24) ? 150 : 8);
-    bool low = (builder->device.outside[2] & 4) != 0;
+    unsigned many = 1 + generate_below(builder->random, one_in(builder->random, 24) ? 80 : 8);
 
     while (many-- > 0) {
-        put_pin(builder, MODEL_PIN_TIN, !low);
-        low = !low;
-        if (one_in(builder->random, 8)) {
+        put_pin(builder, MODEL_PIN_TIN, !tin_is_high(&builder->device));
+        switch (generate_below(builder->random, 8)) {
+        case 0:
             act_clocks(builder);
+            break;
+        case 1:
+        case 2:
+            break;
+        default:
+            put_clocks(builder, 1);
+            break;
         }
+    }
+}
+
+/* A rise of TIN, by way of the low level where need be. */
+static void rise_of_tin(struct builder *builder)
+{
+    if (tin_is_high(&builder->device)) {
+        put_pin(builder, MODEL_PIN_TIN, false);
+    }
+    put_pin(builder, MODEL_PIN_TIN, true);
+}
+
+/* 02, R-2: what may come between a rise of TIN and the next clock. */
+static void before_clock(struct builder *builder)
+{
+    struct generate_random *random = builder->random;
+    uint8_t tcr = builder->device.tcr;
+
+    switch (generate_below(random, 16)) {
+    case 0: /* further rises */
+        rise_of_tin(builder);
+        if (one_in(random, 2)) {
+            rise_of_tin(builder);
+        }
+        break;
+    case 1:
+        put_pin(builder, MODEL_PIN_TIN, false);
+        break;
+    case 2: /* its level again */
+        put_pin(builder, MODEL_PIN_TIN, true);
+        break;
+    case 3: /* off, and on again */
+        put_write(builder, MODEL_TCR, tcr & 0xFEu);
+        put_write(builder, MODEL_TCR, tcr);
+        break;
+    case 4: /* off, and a rise while halted */
+        put_write(builder, MODEL_TCR, tcr & 0xFEu);
+        rise_of_tin(builder);
+        break;
+    case 5:
+    case 6: /* another source, and back or not */
+        put_write(builder, MODEL_TCR, tcr ^ (uint8_t)((1 + generate_below(random, 3)) << 1));
+        if (one_in(random, 2)) {
+            put_write(builder, MODEL_TCR, tcr);
+        }
+        break;
+    case 7: /* the same source */
+        put_write(builder, MODEL_TCR, tcr ^ (any_byte(random) & 0xF8u));
+        break;
+    case 8:
+        put_write(builder, MODEL_TCR, tcr ^ 0x10u);
+        break;
+    case 9:
+        put_preload(builder, generate_below(random, 4));
+        break;
+    case 10:
+        if (one_in(random, 4)) {
+            put_bare(builder, MODEL_RESET);
+            put_write(builder, MODEL_TCR, tcr);
+        }
+        break;
+    default:
+        break;
+    }
+}
+
+/* A sample clock on TIN, with source 10 or 11: rises, and the clocks that take them. For source 10 the prescaler is
+ * brought near 0 by the clock beforehand, since a count takes 32 rises otherwise. */
+static void act_sample_clock(struct builder *builder)
+{
+    struct generate_random *random = builder->random;
+    unsigned rounds = 1 + generate_below(random, 8);
+    unsigned tcr = 0x05u | generate_below(random, 8) << 5;
+
+    tcr |= one_in(random, 3) ? 0x10u : 0u;
+    tcr |= one_in(random, 2) ? 0x02u : 0u;
+    put_preload(builder, generate_below(random, 4));
+    if (one_in(random, 3)) {
+        put_write(builder, MODEL_TCR, 0x01);
+        put_clocks(builder, builder->device.prescaler - generate_below(random, 2));
+    }
+    state_tin(builder, tcr);
+    put_write(builder, MODEL_TCR, (uint8_t)tcr);
+    while (rounds-- > 0) {
+        rise_of_tin(builder);
+        before_clock(builder);
+        put_clocks(builder, one_in(random, 6) ? 2 + generate_below(random, 300) : 1);
     }
 }
 
@@ -555,7 +654,8 @@ static void act(struct builder *builder)
         act_clocks, act_clocks, act_clocks, act_h1_edge, act_h1_edge, act_h2_edge, act_pins, act_port_setup,
         act_port_setup, act_data, act_data, act_handshake, act_handshake, act_handshake, act_timer_setup,
         act_timer_run, act_timer_run, act_timer_change, act_timer_change, act_timer_restart, act_tin, act_tin,
-        act_status_writes, act_port_c, act_interrupt_setup, act_acknowledge, act_anything, act_anything,
+        act_sample_clock, act_status_writes, act_port_c, act_interrupt_setup, act_acknowledge, act_anything,
+        act_anything,
     };
 
     actions[generate_below(builder->random, sizeof actions / sizeof actions[0])](builder);
@@ -687,6 +787,7 @@ static void construct_timer(struct generate_random *random, struct model_device 
     device->zds = !halted && one_in(random, 2);
     device->square_high = halted || one_in(random, 2);
     device->load_due = halted || one_in(random, 3);
+    device->rise_held = !halted && (device->tcr & 4) != 0 && one_in(random, 2);
 }
 
 #define ANY_IN_RANGE(kind, place, most, name) device.place = (model_##kind)up_to(random, most);
@@ -911,6 +1012,17 @@ static void break_halt(struct generate_random *random, struct model_device *devi
     device->zds = broken == 1;
     device->square_high = broken != 2;
     device->load_due = broken != 3;
+    device->rise_held = false;
+}
+
+/* A rise held where its rule drops it: with source 00 or 01, halted or not, or halted with 10 or 11. */
+static void break_rise(struct generate_random *random, struct model_device *device)
+{
+    static const uint8_t dropping[] = {0x00, 0x01, 0x02, 0x03, 0x04, 0x06};
+
+    device->tcr = (device->tcr & 0xF0) | dropping[generate_below(random, sizeof dropping)];
+    construct_timer(random, device);
+    device->rise_held = true;
 }
 
 static void break_timer(struct generate_random *random, struct model_device *device)
@@ -918,9 +1030,10 @@ static void break_timer(struct generate_random *random, struct model_device *dev
     uint32_t over = 0x1000000u << generate_below(random, 8);
 
     over |= generate_below(random, 0x1000000);
-    switch (generate_below(random, 8)) {
+    switch (generate_below(random, 10)) {
     case 0:
         device->tcr = 0x01;
+        device->rise_held = false;
         device->prescaler = (uint8_t)(32 + generate_below(random, 224));
         break;
     case 1:
@@ -931,6 +1044,10 @@ static void break_timer(struct generate_random *random, struct model_device *dev
         break;
     case 3:
         device->tcr |= 0x08;
+        break;
+    case 4:
+    case 5:
+        break_rise(random, device);
         break;
     default:
         break_halt(random, device);

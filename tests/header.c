@@ -114,7 +114,7 @@ static void lend(void)
 /* The flags as pit.h lists them, and as the model's rows have them. */
 static bool stated_flag(size_t place)
 {
-    static const uint8_t flags[] = {13, 14, 15, 26, 27, 28, 42, 43, 44, 48, 49, 50, 51};
+    static const uint8_t flags[] = {13, 14, 15, 26, 27, 28, 42, 43, 44, 48, 49, 50, 51, 52};
 
     return memchr(flags, (int)place, sizeof flags) != NULL;
 }
@@ -255,7 +255,8 @@ static void calls_that_do_something(struct generate_random *random)
     expect_flags_0_or_1("flags after a write");
     pit_read(device, sizeof device, generate_below(random, 2) ? PIT_PADR : PIT_PBDR);
     expect_flags_0_or_1("flags after a read");
-    pit_pin(device, sizeof device, (uint8_t)generate_below(random, PIT_PINS), (uint8_t)generate_below(random, 256));
+    number = (uint8_t)generate_below(random, PIT_PINS);
+    expect("a level", pit_pin(device, sizeof device, number, (uint8_t)generate_below(random, 256)), 0);
     expect_flags_0_or_1("flags after a level");
     pit_clocks(device, sizeof device, generate_below(random, 1000), 0, openings, ROOM, &opened);
     expect_flags_0_or_1("flags after clocks");
@@ -475,6 +476,80 @@ static void answer_bytes(void)
     expect_bytes("four answers", answers, meant, sizeof meant);
 }
 
+/* ---- A rise of TIN ---- */
+
+#define RISE_HELD 52u /* the byte of the layout */
+
+/* Preload 1, source 11; the first rise and a clock have loaded it. */
+static void about_to_open(void)
+{
+    pit_fresh(device, sizeof device);
+    pit_write(device, sizeof device, PIT_CPRL, 1);
+    pit_write(device, sizeof device, PIT_TCR, 0x07);
+    pit_pin(device, sizeof device, PIT_TIN, 1);
+    pit_clocks(device, sizeof device, 1, 0, NULL, 0, &opened);
+    pit_pin(device, sizeof device, PIT_TIN, 0);
+    lend();
+}
+
+/* A rise opens nothing: it is held, further ones add nothing, and the next clock opens. */
+static void rises_of_tin(void)
+{
+    unsigned rise;
+
+    about_to_open();
+    expect("no rise held", device[RISE_HELD], 0);
+    for (rise = 0; rise < 3; rise++) {
+        expect("a rise of TIN", pit_pin(device, sizeof device, PIT_TIN, 1), 0);
+        expect("a fall of TIN", pit_pin(device, sizeof device, PIT_TIN, 0), 0);
+        expect("a rise held", device[RISE_HELD], 1);
+        expect("the count before the clock", pit_read(device, sizeof device, PIT_CNTRL), 1);
+        expect("ZDS before the clock", pit_read(device, sizeof device, PIT_TSR), 0);
+        expect("a device with a rise held", pit_valid(device, sizeof device), 1);
+    }
+    expect("clocks after three rises", pit_clocks(device, sizeof device, 1000, 1, openings, ROOM, &opened), 0);
+    expect("their openings", opened, 1);
+    expect("the first clock after the rise", openings[0], 2);
+    expect("no rise held after it", device[RISE_HELD], 0);
+    expect_kept("past the opening of a rise", 0, 1);
+}
+
+/* A halt, a reset and a change of source drop a held rise; 8 where one is held after all. */
+static void dropped_rises(void)
+{
+    static const uint8_t no_event[] = {0xE0};
+    static const struct {
+        uint8_t tcr;
+        uint8_t kept;
+        uint8_t may_hold;
+    } trials[] = {
+        {0x07, 1, 1}, /* as it was */
+        {0xE7, 1, 1}, /* another function of TOUT */
+        {0x17, 1, 1}, /* roll */
+        {0x05, 0, 1}, /* source 10 */
+        {0x03, 0, 0}, /* source 01, TIN high: runs */
+        {0x01, 0, 0}, /* source 00 */
+        {0x06, 0, 0}, /* halted */
+        {0x04, 0, 0}, /* halted, source 10 */
+        {0x00, 0, 0}, /* halted, source 00 */
+    };
+    size_t trial;
+
+    for (trial = 0; trial < sizeof trials / sizeof trials[0]; trial++) {
+        about_to_open();
+        pit_pin(device, sizeof device, PIT_TIN, 1);
+        pit_write(device, sizeof device, PIT_TCR, trials[trial].tcr);
+        expect("a rise after a write of TCR", device[RISE_HELD], trials[trial].kept);
+        device[RISE_HELD] = 0xFF;
+        expect("a rise held after a write of TCR", pit_valid(device, sizeof device), trials[trial].may_hold);
+        expect("8 of a held rise",
+               pit_play(device, sizeof device, no_event, sizeof no_event, NULL, 0, NULL, 0, totals, PIT_TOTALS),
+               trials[trial].may_hold ? PIT_ACCEPTED : PIT_REFUSED_DEVICE);
+        pit_reset(device, sizeof device);
+        expect("a rise after a reset", device[RISE_HELD], 0);
+    }
+}
+
 /* A device and a list at any address. */
 static void any_address(void)
 {
@@ -515,6 +590,8 @@ int main(void)
     lent_rows();
     refusals();
     answer_bytes();
+    rises_of_tin();
+    dropped_rises();
     any_address();
     for (round = 0; round < ROUNDS && faults == 0; round++) {
         struct generate_random random = generate_seeded(9, round);

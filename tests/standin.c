@@ -81,17 +81,16 @@ uint32_t pit_read(uint8_t *device, size_t device_size, uint8_t number)
 uint32_t pit_pin(uint8_t *device, size_t device_size, uint8_t pin, uint8_t level)
 {
     struct model_device model;
-    bool opened = false;
 
     if (device_size != PIT_DEVICE_SIZE) {
         return PIT_WRONG_SIZE;
     }
     model = model_from_bytes(device);
     if (pin < MODEL_PINS) {
-        opened = model_pin(&model, pin, level != 0);
+        model_pin(&model, pin, level != 0);
     }
     model_to_bytes(&model, device);
-    return opened;
+    return 0;
 }
 
 uint32_t pit_clocks(uint8_t *device, size_t device_size, uint32_t clocks, uint32_t passed, uint32_t *openings,

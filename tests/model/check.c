@@ -1,6 +1,7 @@
 /* Tries the model on the lists of document 01, Lists to try (P1 to P12 and the pit-run example), on the
  * misreadings 01 warns of, and on single sentences of it and of document 02. Prints nothing unless a check fails. */
 #include "model.h"
+#include "writer.h"
 
 #include <stdio.h>
 #include <string.h>
@@ -90,8 +91,8 @@ static void check_openings(void)
 
 static void pulse_pin(struct model_device *device, unsigned pin)
 {
-    (void)model_pin(device, pin, true);
-    (void)model_pin(device, pin, false);
+    model_pin(device, pin, true);
+    model_pin(device, pin, false);
 }
 
 static void check_ports(void)
@@ -160,23 +161,182 @@ static void check_idle_levels(void)
     for (pin = 0; pin < MODEL_PINS; pin++) {
         expect("R-6, a fresh level", model_level(&device, pin), pin != MODEL_PIN_TIN);
     }
-    (void)model_pin(&device, MODEL_PIN_TIN, true);
+    model_pin(&device, MODEL_PIN_TIN, true);
     model_reset(&device);
     expect("R-6, a level kept by reset", model_read(&device, MODEL_DATA_C), 0xFF);
-    (void)model_pin(&device, MODEL_PIN_TIN, false);
+    model_pin(&device, MODEL_PIN_TIN, false);
     model_reset(&device);
     expect("R-6, a low level kept by reset", model_read(&device, MODEL_DATA_C), 0xFB);
     device = timer_started(1, 0x03);
     expect("R-6, PC2 not stated", pass_clocks(&device, 256), 0);
-    (void)model_pin(&device, MODEL_PIN_TIN, true);
+    model_pin(&device, MODEL_PIN_TIN, true);
     expect("R-6, the first trigger is a rise", pass_clocks(&device, 63), 0);
     expect("R-6, the first trigger is a rise", pass_clocks(&device, 1), 1);
     device = model_fresh();
-    (void)model_pin(&device, MODEL_PIN_TIN, true);
+    model_pin(&device, MODEL_PIN_TIN, true);
     model_write(&device, MODEL_PRELOAD_LOW, 1);
     model_write(&device, MODEL_TCR, 0x03);
     expect("R-6, PC2 stated high", pass_clocks(&device, 63), 0);
     expect("R-6, PC2 stated high", pass_clocks(&device, 1), 1);
+}
+
+/* A rise and a fall of TIN, which is low before. */
+static void tin_pulse(struct model_device *device)
+{
+    pulse_pin(device, MODEL_PIN_TIN);
+}
+
+/* A timer with source 11 and preload 5 that has loaded it, and holds a rise more. */
+static struct model_device holding_rise(void)
+{
+    struct model_device device = timer_started(5, 0x07);
+
+    tin_pulse(&device);
+    (void)pass_clocks(&device, 1);
+    tin_pulse(&device);
+    expect("R-2, nothing moves before the clock", model_read(&device, MODEL_COUNT_LOW), 5);
+    return device;
+}
+
+/* What the counter reads after a clock, and after a further one, which takes no rise. */
+static void expect_count(const char *what, struct model_device device, uint32_t count)
+{
+    (void)pass_clocks(&device, 1);
+    expect(what, device.count, count);
+    (void)pass_clocks(&device, 1);
+    expect(what, device.count, count);
+}
+
+/* 02, R-2: "a rise with source 10 or 11 is held and takes effect at the next clock; further rises before it add
+ * nothing". The level that the rise leaves, a fall and many clocks at once make no difference. */
+static void check_held_rises(void)
+{
+    struct model_device device = holding_rise();
+
+    expect_count("R-2, a clock takes the rise", device, 4);
+    tin_pulse(&device);
+    tin_pulse(&device);
+    expect_count("R-2, three rises count once", device, 4);
+    model_pin(&device, MODEL_PIN_TIN, true);
+    model_pin(&device, MODEL_PIN_TIN, true);
+    expect_count("R-2, TIN high", device, 4);
+    (void)pass_clocks(&device, 65536);
+    expect("R-2, many clocks", device.count, 4);
+    model_write(&device, MODEL_TCR, 0x07);
+    tin_pulse(&device);
+    expect_count("R-2, the level as it is: no rise", device, 4);
+    tin_pulse(&device);
+    expect_count("R-2, the next rise", device, 3);
+
+    device = timer_started(1, 0x01);
+    (void)pass_clocks(&device, 31);
+    model_write(&device, MODEL_TCR, 0x05);
+    (void)pass_clocks(&device, 100);
+    expect("R-2, no rise", device.prescaler, 0);
+    tin_pulse(&device);
+    expect("R-2, the prescaler before the clock", device.prescaler, 0);
+    (void)pass_clocks(&device, 1);
+    expect("R-2, the prescaler at the clock", device.prescaler, 31);
+    expect("R-2, a count through the prescaler", device.count, 1);
+}
+
+/* 02, R-2: "a halt, a reset or a change of source drops it, and while the timer is halted none is held." */
+static void check_dropped_rises(void)
+{
+    static const uint8_t sources[] = {0x01, 0x03, 0x05, 0x07};
+    unsigned before, after;
+    struct model_device device = holding_rise();
+
+    model_write(&device, MODEL_PRELOAD_LOW, 9);
+    model_write(&device, MODEL_TCR, 0xF7);
+    expect_count("R-2, other bits of TCR keep the rise", device, 4);
+    model_write(&device, MODEL_TCR, 0x06);
+    tin_pulse(&device);
+    model_write(&device, MODEL_TCR, 0x07);
+    expect_count("R-2, off and on again", device, 5);
+    expect("R-2, a load due", device.load_due, true);
+    tin_pulse(&device);
+    model_reset(&device);
+    tin_pulse(&device);
+    expect("R-2, a rise of PC2 after a reset", device.rise_held, false);
+    model_write(&device, MODEL_TCR, 0x07);
+    expect_count("R-2, a reset", device, 5);
+
+    for (before = 0; before < 4; before++) {
+        for (after = 0; after < 4; after++) {
+            device = timer_started(5, sources[before]);
+            model_pin(&device, MODEL_PIN_TIN, true);
+            expect("R-2, held with sources 10 and 11", device.rise_held, before >= 2);
+            model_write(&device, MODEL_TCR, sources[after]);
+            expect("R-2, kept with the same source", device.rise_held, before >= 2 && before == after);
+            model_write(&device, MODEL_TCR, sources[before]);
+            expect("R-2, back again", device.rise_held, before >= 2 && before == after);
+        }
+    }
+}
+
+/* 02, R-2: a rise "takes effect at the next clock", with preload and bit 4 as they stand there; "an opening now falls
+ * only on a clock". */
+static void check_rises_at_clock(void)
+{
+    struct model_device device = timer_started(5, 0x07);
+
+    model_pin(&device, MODEL_PIN_TIN, true);
+    model_write(&device, MODEL_PRELOAD_LOW, 1);
+    expect_count("R-2, the preload at the clock", device, 1);
+    (void)pass_clocks(&device, 1);
+    tin_pulse(&device);
+    model_pin(&device, MODEL_PIN_TIN, true);
+    expect("R-2, no opening at the rise", model_read(&device, MODEL_TSR), 0);
+    expect("R-2, of many clocks one opens", pass_clocks(&device, 1000), 1);
+    expect("R-2, ZDS at the clock", model_read(&device, MODEL_TSR), 1);
+    tin_pulse(&device);
+    model_pin(&device, MODEL_PIN_TIN, true);
+    model_write(&device, MODEL_TCR, 0x17);
+    expect_count("R-2, bit 4 at the clock: roll", device, 0xFFFFFF);
+    model_write(&device, MODEL_TCR, 0x07);
+    expect_count("R-2, bit 4 at the clock: reload", device, 1);
+}
+
+/* 02, R-2: "numbers rise strictly". Source 11, preload 1: each second rise opens, at the first of three clocks. */
+static void check_rise_numbers(void)
+{
+    static uint8_t list[64];
+    struct writer writer = {list, 0};
+    struct model_device device = model_fresh();
+    unsigned rise;
+
+    writer_pin(&writer, MODEL_PIN_TIN, false);
+    writer_write(&writer, MODEL_PRELOAD_LOW, 1);
+    writer_write(&writer, MODEL_TCR, 0x07);
+    for (rise = 0; rise < 6; rise++) {
+        writer_pin(&writer, MODEL_PIN_TIN, true);
+        writer_pin(&writer, MODEL_PIN_TIN, false);
+        writer_clocks(&writer, 3);
+    }
+    expect("R-2, a list", play(&device, list, writer_end(&writer), MODEL_RUN_OPENINGS), MODEL_ACCEPTED);
+    expect("R-2, its openings", totals.openings, 3);
+    expect("R-2, the first", openings[0], 4);
+    expect("R-2, the second", openings[1], 10);
+    expect("R-2, the third", openings[2], 16);
+}
+
+/* 01, number 8: "fields added later: ... set where their rule drops them". */
+static void check_held_refused(void)
+{
+    unsigned source, enabled;
+
+    for (source = 0; source < 4; source++) {
+        for (enabled = 0; enabled < 2; enabled++) {
+            struct model_device device = timer_started(5, (uint8_t)(source << 1 | enabled));
+
+            expect("R-2, valid without a rise", model_valid(&device), true);
+            device.rise_held = true;
+            expect("R-2, number 8", model_valid(&device), source >= 2 && enabled);
+            device.outside[2] |= 4;
+            expect("R-2, number 8, TIN high", model_valid(&device), source >= 2 && enabled);
+        }
+    }
 }
 
 static void check_program_example(void)
@@ -293,6 +453,11 @@ int main(void)
     check_ports();
     check_orders();
     check_idle_levels();
+    check_held_rises();
+    check_dropped_rises();
+    check_rises_at_clock();
+    check_rise_numbers();
+    check_held_refused();
     check_program_example();
     check_misreadings();
     check_handshakes();

@@ -52,7 +52,8 @@
     ELEMENT(flag, outside_hand[0], 1, "outside H1")                                                                  \
     ELEMENT(flag, outside_hand[1], 1, "outside H2")                                                                  \
     ELEMENT(flag, outside_hand[2], 1, "outside H3")                                                                  \
-    ELEMENT(flag, outside_hand[3], 1, "outside H4")
+    ELEMENT(flag, outside_hand[3], 1, "outside H4")                                                                  \
+    FIELD(flag, rise_held, 1, "a rise of TIN is held")
 
 /* Every field of the layout, as ROW(kind, place in struct model_device, most, name). */
 #define MODEL_LAYOUT(ROW) MODEL_FIELDS(ROW, ROW, MODEL_PORT_FIELDS)

@@ -24,6 +24,7 @@
 #define VECTOR_AT_RESET 0x0Fu
 #define PSRR_BITS 0x7Fu /* 01, Registers: unused bits read 0: PSRR bit 7, TCR bit 3, TSR bits 7-1 */
 #define TCR_BITS 0xF7u
+#define TCR_SOURCE 0x06u
 #define PIVR_BITS 0xFCu
 #define HELD_MOST 2u
 #define INPUT_WAIT (MISREAD(7) ? 3u : MISREAD(8) ? 5u : 4u) /* 01, Mode 0: two clocks for output, four for input */
@@ -569,7 +570,8 @@ static void h2_asserted_edge(struct model_device *device, unsigned which)
 
 /* ---- Timer ---- */
 
-/* 01, Timer: "Halted: prescaler 31, ZDS 0, square wave high, a load due, counter kept." */
+/* 01, Timer: "Halted: prescaler 31, ZDS 0, square wave high, a load due, counter kept"; 02, R-2: "a halt ... drops" a
+ * rise that is held. */
 static void halt(struct model_device *device)
 {
     if (!MISREAD(2)) {
@@ -578,6 +580,9 @@ static void halt(struct model_device *device)
     device->zds = false;
     device->square_high = true;
     device->load_due = true;
+    if (!MISREAD(87)) {
+        device->rise_held = false;
+    }
     if (MISREAD(67)) {
         device->count = 0;
     }
@@ -645,14 +650,54 @@ static bool source_step(struct model_device *device)
     return count_once(device);
 }
 
-/* PC2's outside level changed. 01, Timer: the four sources; "A TIN edge counts at once." Read as: a fall
- * under source 01 halts at once what ran, and after a rise the next clock is the first step. */
-static bool tin_changed(struct model_device *device, bool rising)
+/* 01, Timer: "10 rising TIN through the prescaler; 11 rising TIN direct". */
+static bool tin_step(struct model_device *device)
+{
+    if (timer_source(device) == SOURCE_TIN_PRESCALED ? !MISREAD(99) : MISREAD(98)) {
+        HIT("a rise of TIN through the prescaler");
+        return source_step(device);
+    }
+    HIT("a rise of TIN direct");
+    if (MISREAD(63)) {
+        device->prescaler = PRESCALER_FULL;
+    }
+    return count_once(device);
+}
+
+/* 02, R-2: a rise of TIN "with source 10 or 11 is held and takes effect at the next clock; further rises before it add
+ * nothing; ... while the timer is halted none is held". Read as: a fall before the clock does not take it back. */
+static void tin_edge(struct model_device *device, bool rising)
+{
+    if (!rising) {
+        HIT("TIN falls under source 10 or 11");
+        if (MISREAD(94)) {
+            device->rise_held = false;
+        }
+    } else if (!bit(device->tcr, 0) && !MISREAD(95)) {
+        HIT("TIN rises under source 10 or 11, halted");
+    } else if (device->rise_held) {
+        HIT("a further rise of TIN before the clock");
+        if (MISREAD(86)) {
+            (void)tin_step(device);
+        }
+    } else {
+        HIT("a rise of TIN is held");
+        if (MISREAD(85)) {
+            (void)tin_step(device);
+        } else {
+            device->rise_held = true;
+        }
+    }
+}
+
+/* PC2's outside level changed. 01, Timer: the four sources. Read as: a fall under source 01 halts at once what ran, and
+ * after a rise the next clock is the first step. */
+static void tin_changed(struct model_device *device, bool rising)
 {
     switch (timer_source(device)) {
     case SOURCE_CLOCK:
         HIT("PC2 changes, not TIN");
-        return false;
+        break;
     case SOURCE_GATED_CLOCK:
         if (!rising && bit(device->tcr, 0) && !MISREAD(25)) {
             HIT("TIN falls under source 01");
@@ -662,43 +707,58 @@ static bool tin_changed(struct model_device *device, bool rising)
         } else {
             HIT("TIN rises under source 01");
             if (MISREAD(62) && timer_running(device)) {
-                return source_step(device);
+                (void)source_step(device);
+            }
+            if (MISREAD(96)) {
+                device->rise_held = true;
             }
         }
-        return false;
+        break;
     default:
+        tin_edge(device, rising);
         break;
     }
-    if (!rising || !bit(device->tcr, 0)) {
-        HIT("TIN edge that does not count");
+}
+
+/* 02, R-2: a clock with source 10 or 11 takes the rise that is held. */
+static bool take_held_rise(struct model_device *device)
+{
+    if (!device->rise_held) {
         return false;
     }
-    if (timer_source(device) == SOURCE_TIN_PRESCALED) {
-        HIT("TIN edge through the prescaler");
-        return source_step(device);
+    HIT("a clock takes the held rise");
+    device->rise_held = MISREAD(97);
+    return tin_step(device);
+}
+
+/* 01, Timer: sources 00 and 01 step at each clock. A clock leaves a timer that is halted alone, and with these sources
+ * a held rise that was handed in. Answers whether the gate opened. */
+static bool timer_clock(struct model_device *device)
+{
+    if (!timer_running(device)) {
+        return MISREAD(106) && take_held_rise(device);
     }
-    HIT("TIN edge direct");
-    if (MISREAD(63)) {
-        device->prescaler = PRESCALER_FULL;
+    if (timer_source(device) > SOURCE_GATED_CLOCK) {
+        return take_held_rise(device);
     }
-    return count_once(device);
+    if (MISREAD(107)) {
+        device->rise_held = false;
+    }
+    return source_step(device);
 }
 
 MODEL_LINKAGE bool model_clock(struct model_device *device)
 {
     port_clock(device, 0);
     port_clock(device, 1);
-    if (timer_source(device) > SOURCE_GATED_CLOCK || !timer_running(device)) {
-        return false;
-    }
-    return source_step(device);
+    return timer_clock(device);
 }
 
 /* ---- Outside levels ---- */
 
 /* 01, Registers: "An outside level on a driven pin is remembered. An edge happens only at a pin event that
  * changes the level of a pin that is an input". Read as: the level that must change is the remembered one. */
-MODEL_LINKAGE bool model_pin(struct model_device *device, unsigned pin, bool level)
+MODEL_LINKAGE void model_pin(struct model_device *device, unsigned pin, bool level)
 {
     if (pin >= MODEL_PIN_H1) {
         unsigned hand = pin - MODEL_PIN_H1;
@@ -714,7 +774,6 @@ MODEL_LINKAGE bool model_pin(struct model_device *device, unsigned pin, bool lev
         } else {
             h2_asserted_edge(device, hand / 2);
         }
-        return false;
     } else {
         uint8_t *levels = &device->outside[pin / 8];
         uint8_t mask = (uint8_t)(1u << pin % 8);
@@ -724,7 +783,9 @@ MODEL_LINKAGE bool model_pin(struct model_device *device, unsigned pin, bool lev
         if (MISREAD(75) && pin == MODEL_PIN_TIN && !timer_running(device)) {
             halt(device);
         }
-        return changed && pin == MODEL_PIN_TIN ? tin_changed(device, level) : false;
+        if ((changed || MISREAD(105)) && pin == MODEL_PIN_TIN) {
+            tin_changed(device, level);
+        }
     }
 }
 
@@ -868,20 +929,37 @@ static void write_psr(struct model_device *device, uint8_t value)
 }
 
 /* 01, Timer: "Changing the source while running keeps the prescaler." Read as: so does any write that leaves
- * the timer running, and choosing source 01 with TIN low halts at that write. */
+ * the timer running, and choosing source 01 with TIN low halts at that write. 02, R-2: "a change of source drops" a
+ * rise that is held. Read as: 10 to 11 is a change, and a write with the same source keeps the rise. */
 static void write_tcr(struct model_device *device, uint8_t value)
 {
     uint8_t before = device->tcr;
+    enum timer_source source;
 
+    if (MISREAD(104) && device->rise_held && timer_running(device)) {
+        (void)take_held_rise(device);
+    }
     device->tcr = value & TCR_BITS;
+    source = timer_source(device);
     if (MISREAD(24) ? !bit(value, 0) : !timer_running(device)) {
         HIT("TCR write halts");
         halt(device);
+        return;
+    }
+    device->load_due = device->load_due || MISREAD(66);
+    if (((before ^ value) & TCR_SOURCE) == 0) {
+        HIT("TCR write runs, the same source");
+        if (MISREAD(93) || (MISREAD(109) && !bit(before, 0))) {
+            device->rise_held = false;
+        }
     } else {
-        HIT("TCR write runs");
-        device->load_due = device->load_due || MISREAD(66);
-        if (MISREAD(26) && (before & 6u) != (value & 6u)) {
+        HIT("TCR write runs, another source");
+        if (MISREAD(26)) {
             device->prescaler = PRESCALER_FULL;
+        }
+        if (!(MISREAD(89) && source == SOURCE_TIN_DIRECT) && !(MISREAD(90) && source == SOURCE_TIN_PRESCALED) &&
+            !(MISREAD(91) && source == SOURCE_CLOCK) && !(MISREAD(92) && source == SOURCE_GATED_CLOCK)) {
+            device->rise_held = false;
         }
     }
 }
@@ -889,6 +967,9 @@ static void write_tcr(struct model_device *device, uint8_t value)
 /* 01, Registers: "19-21 preload high, mid, low": three bytes, and no more of it is left. */
 static void write_preload(struct model_device *device, unsigned shift, uint8_t value)
 {
+    if (MISREAD(103) && device->rise_held && timer_running(device)) {
+        (void)take_held_rise(device);
+    }
     device->preload = (device->preload & COUNT_MOST & ~(0xFFu << shift)) | (uint32_t)value << shift;
 }
 
@@ -1097,9 +1178,10 @@ MODEL_LINKAGE uint8_t model_read(struct model_device *device, unsigned number)
 
 /* 01, A fresh device: "Reset does the same to control, direction and vector registers, status and handshakes,
  * but keeps data latches, the last byte read, preload, counter and outside levels." Read as: held bytes are
- * lost and do not become the last byte read. */
+ * lost and do not become the last byte read. 02, R-2: "a reset ... drops" a rise that is held; the halt does. */
 MODEL_LINKAGE void model_reset(struct model_device *device)
 {
+    bool rise_held = device->rise_held;
     unsigned which;
 
     device->pgcr = 0;
@@ -1126,6 +1208,9 @@ MODEL_LINKAGE void model_reset(struct model_device *device)
     device->tcr = 0;
     device->tivr = VECTOR_AT_RESET;
     halt(device);
+    if (MISREAD(88)) {
+        device->rise_held = rise_held;
+    }
 }
 
 /* 01, A fresh device: "Every register zero, except both vector registers 0F; latches, preload and counter
@@ -1218,7 +1303,8 @@ static bool port_valid(const struct model_device *device, unsigned which)
     return handshake_valid(device, which);
 }
 
-/* "a prescaler over 31, a count or preload over FFFFFF ... or is halted otherwise than stated under Timer". */
+/* "a prescaler over 31, a count or preload over FFFFFF ... or is halted otherwise than stated under Timer (fields added
+ * later: ... set where their rule drops them)": 02, R-2, a rise held while halted, or with source 00 or 01. */
 static bool timer_valid(const struct model_device *device)
 {
     if (device->prescaler > PRESCALER_FULL) {
@@ -1231,6 +1317,10 @@ static bool timer_valid(const struct model_device *device)
     }
     if (device->preload > COUNT_MOST) {
         HIT("8: a preload over FFFFFF");
+        return false;
+    }
+    if (device->rise_held && timer_source(device) <= SOURCE_GATED_CLOCK && !MISREAD(102)) {
+        HIT("8: a rise held with source 00 or 01");
         return false;
     }
     if (MISREAD(56) ? bit(device->tcr, 0) : timer_running(device)) {
@@ -1251,6 +1341,10 @@ static bool timer_valid(const struct model_device *device)
     }
     if (!device->load_due) {
         HIT("8: halted, no load due");
+        return false;
+    }
+    if (device->rise_held && !MISREAD(101)) {
+        HIT("8: halted, a rise held");
         return false;
     }
     return true;
@@ -1401,20 +1495,28 @@ static void record_answer(struct model_pass *pass, unsigned answer)
     pass->totals.answers += 2;
 }
 
-/* 01, The event list: "an opening caused between clocks carries the number passed so far". */
+/* 01, The event list: "Clocks are numbered by how many have passed, the first being 1"; 02, R-2: "an opening now falls
+ * only on a clock". */
 static void record_opening(struct model_pass *pass)
 {
     if (pass->openings != NULL) {
         pass->openings[pass->totals.openings] = (uint32_t)pass->totals.clocks;
+        if (MISREAD(108) && timer_source(&pass->device) > SOURCE_GATED_CLOCK) {
+            pass->openings[pass->totals.openings]--;
+        }
     }
     pass->totals.openings++;
 }
 
 static void play_clocks(struct model_pass *pass, uint32_t clocks)
 {
+    bool rise_held = pass->device.rise_held;
     uint32_t passed;
 
     for (passed = 0; passed < clocks; passed++) {
+        if (MISREAD(100)) {
+            pass->device.rise_held = rise_held && passed + 1 == clocks;
+        }
         pass->totals.clocks++;
         if (model_clock(&pass->device)) {
             record_opening(pass);
@@ -1454,12 +1556,7 @@ MODEL_LINKAGE void model_play_event(struct model_pass *pass, const struct model_
         play_acknowledge(pass, false);
         break;
     case MODEL_PIN:
-        if (model_pin(&pass->device, event->number, event->value != 0)) {
-            HIT("an opening between clocks");
-            pass->totals.clocks += MISREAD(50);
-            record_opening(pass);
-            pass->totals.clocks -= MISREAD(50);
-        }
+        model_pin(&pass->device, event->number, event->value != 0);
         break;
     case MODEL_CLOCKS:
         play_clocks(pass, event->clocks);

@@ -153,8 +153,9 @@ MODEL_LINKAGE bool model_valid(const struct model_device *device);
 MODEL_LINKAGE void model_write(struct model_device *device, unsigned number, uint8_t value);
 MODEL_LINKAGE uint8_t model_read(struct model_device *device, unsigned number);
 
-/* Both answer whether the gate opened. */
-MODEL_LINKAGE bool model_pin(struct model_device *device, unsigned pin, bool level);
+MODEL_LINKAGE void model_pin(struct model_device *device, unsigned pin, bool level);
+
+/* Answers whether the gate opened. */
 MODEL_LINKAGE bool model_clock(struct model_device *device);
 
 MODEL_LINKAGE void model_reset(struct model_device *device);

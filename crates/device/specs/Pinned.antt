@@ -6,7 +6,7 @@ use native.Mathlib.Nat.{sub-zero}
 use native.Mathlib.Omega.{arith}
 use borrow.Author.Tests.{le-leb, lt-ltb, le-ltb}
 use Rattle.event.specs.Map.{PA0, PB0, PC0, H1, H2, H3, H4, lines}
-use Rattle.bits.specs.Tables.{Entry, at, from, find, Each, Missed, each, find-changed, None, past}
+use Rattle.bits.specs.Tables.{Entry, at, from, find, Each, Missed, each, None, past}
 
 -- what stands beside each pin of a port by its place there, and beside each handshake pin
 abbrev pub pins : {A : Type 0} → (ℕ → A) → (ℕ → A) → (ℕ → A) → A → A → A → A → List (Entry A)
@@ -14,12 +14,6 @@ pins a b c h1 h2 h3 h4 = from PA0 lines a ∷ from PB0 lines b ∷ from PC0 line
 
 unfoldable pub pinned : {A : Type 0} → (ℕ → A) → (ℕ → A) → (ℕ → A) → A → A → A → A → A → ℕ → A
 pinned a b c h1 h2 h3 h4 other pin = find (pins a b c h1 h2 h3 h4) other pin
-
--- What stands beside a pin, changed, is what stands beside it where everything is changed.
-pub pinned-changed : {A B : Type 0} (f : A → B) (a b c : ℕ → A) (h1 h2 h3 h4 other : A) (r : ℕ)
-    → f (pinned a b c h1 h2 h3 h4 other r) ≡ pinned (λ n. f (a n)) (λ n. f (b n)) (λ n. f (c n)) (f h1) (f h2) (f h3) (f h4) (f other) r
-unfolding pinned
-pinned-changed f a b c h1 h2 h3 h4 other r = find-changed f (pins a b c h1 h2 h3 h4) other r
 
 -- a number past the handshake pins' is of a port, or no pin's
 module _ {A : Type 0} (a b c : ℕ → A) (h1 h2 h3 h4 other : A) (r : ℕ) (rest : None (Unit {0}) r (pins a b c h1 h2 h3 h4)) where
@@ -31,17 +25,17 @@ module _ {A : Type 0} (a b c : ℕ → A) (h1 h2 h3 h4 other : A) (r : ℕ) (res
   unfolding pinned
   of-b h k = past (pins a b c h1 h2 h3 h4) other r rest ∙ simp (le-leb PA0 r zero-le, le-ltb r PB0 h, le-leb PB0 r h, lt-ltb r PC0 k)
 
-  pub of-c : PC0 ≤ r → r < H1 → pinned a b c h1 h2 h3 h4 other r ≡ c (r - PC0)
-  unfolding pinned
-  of-c h k =
-      past (pins a b c h1 h2 h3 h4) other r rest
-      ∙ simp (le-leb PA0 r zero-le, le-ltb r PB0 (omega arith), le-leb PB0 r (omega arith), le-ltb r PC0 h, le-leb PC0 r h, lt-ltb r H1 k)
-
   pub of-none : H1 ≤ r → pinned a b c h1 h2 h3 h4 other r ≡ other
   unfolding pinned
   of-none h =
       past (pins a b c h1 h2 h3 h4) other r rest
       ∙ simp (le-leb PA0 r zero-le, le-ltb r PB0 (omega arith), le-leb PB0 r (omega arith), le-ltb r PC0 (omega arith), le-leb PC0 r (omega arith), le-ltb r H1 h)
+
+-- what stands beside a pin of port C
+pub at-c : {A : Type 0} (a b c : ℕ → A) (h1 h2 h3 h4 other : A) (r : ℕ) → PC0 ≤ r → r < H1 → pinned a b c h1 h2 h3 h4 other r ≡ c (r - PC0)
+unfolding pinned
+at-c a b c h1 h2 h3 h4 other r h k =
+    simp (le-leb PA0 r zero-le, le-ltb r PB0 (omega arith), le-leb PB0 r (omega arith), le-ltb r PC0 h, le-leb PC0 r h, lt-ltb r H1 k)
 
 -- What holds of each pin's, and of what stands for all other numbers, holds of whatever is found.
 pub any-pin : {A : Type 0} (P : A → Type 0) (a b c : ℕ → A) (h1 h2 h3 h4 other : A) (r : ℕ)

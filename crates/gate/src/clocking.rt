@@ -3,6 +3,7 @@ use crate::Gate;
 use crate::GateRun;
 use crate::Gated;
 use timer::ClockNumber;
+use timer::control::clock_steps;
 ghost use mathlib.Core.Path.{_≡_};
 ghost use mathlib.Core.List.{map};
 ghost use lib.Seq.{sets};
@@ -24,13 +25,20 @@ impl Gate {
     }
 
     // n clocks, after those that have passed, at once. The number of each that opens goes into the row from place `at` on, as far
-    // as the row has room.
+    // as the row has room. A timer that they do not step, and that holds no rise for them, stands.
     pub fn clocks(mut self, n: u32, passed: ClockNumber, row: &mut [u32], at: usize) -> GateRun
         ensures counted { λ r. ⌜ r ≡ gateRun n (passed .0) self ⌝ }
         ensures numbered { λ r. ⌜ now (row .exit) ≡ sets (now (row .entry)) at (map clockNumber (gateOpenings n (passed .0) self)) ⌝ }
     {
         let timer = self.timer;
-        let run = clocks::clocks(timer, self.c.tin(), n, passed, row, at);
+        let tin = self.c.tin();
+        if !clock_steps(timer.tcr, tin) & !timer.takes_rise(tin) {
+            return GateRun {
+                gate: self,
+                used: 0,
+            };
+        }
+        let run = clocks::clocks(timer, tin, n, passed, row, at);
         let next = run.timer;
         self.timer = next;
         GateRun {

@@ -14,7 +14,7 @@ pub struct Gate {
     pub c: PortC,
 }
 
-// The gate after a clock or a level at a pin, and whether that opened it.
+// The gate after a clock, and whether that opened it.
 pub struct Gated {
     pub gate: Gate,
     pub opened: bool,

@@ -1,32 +1,21 @@
 -- Events as far as they concern the gate: what they leave of it and when they open it depends on the gate alone (01, 'Timer').
 use Prim.Native.Nat.{ℕ}
-use mathlib.Core.Bool.{Bool}
 use mathlib.Core.List.{List, []}
 use mathlib.Core.Path.{_≡_, refl, sym, ap, _∙_}
-use Rattle.bits.specs.Field.{withBit}
 use Rattle.bits.specs.Tables.{find-changed}
 use Rattle.event.specs.declared.Event.{Event}
 use Rattle.event.specs.declared.Event.the-variants.{Write, Read, PortAcknowledge, TimerAcknowledge, Pin, Clocks, Reset}
-use Rattle.port.specs.Parts.{withOutside}
-use Rattle.port.specs.declared.Pair.the-variants.{H12, H34}
-use Rattle.timer.specs.Running.{mark}
 use Rattle.gate.specs.Clocking.{gateAfter, gateOpenings}
 use Rattle.gate.specs.Fresh.{resetGate}
 use Rattle.gate.specs.Pins.{gatePinned}
 use Rattle.gate.specs.Registers.{gateWritten}
 use Rattle.gate.specs.declared.Gate.{Gate}
-use Rattle.gate.specs.declared.Gated.{Gated}
-use Rattle.parallel.specs.Parts.{withPorts}
-use Rattle.parallel.specs.Pins.{firstPin, secondPin}
-use Rattle.parallel.specs.declared.Parallel.{Parallel}
 use Rattle.device.specs.Fresh.{resetOf}
 use Rattle.device.specs.ManyClocks.{halves, opens}
-use Rattle.device.specs.Pinned.{pinned, pinned-changed}
-use Rattle.device.specs.Pins.{gated, pinOf}
+use Rattle.device.specs.Pins.{pinOf}
 use Rattle.device.specs.Registers.{readOf, writes, writeOf}
 use Rattle.device.specs.Events.{effect}
 use Rattle.device.specs.declared.Device.{Device}
-use Rattle.device.specs.declared.Stepped.{Stepped}
 use Rattle.laws.specs.Touching.{write-gate, read-gate, pin-gate}
 
 -- the gate after an event
@@ -35,7 +24,7 @@ followed g (Write r v) = gateWritten g r v
 followed g (Read r) = g
 followed g PortAcknowledge = g
 followed g TimerAcknowledge = g
-followed g (Pin n level) = gatePinned g n level .gate
+followed g (Pin n level) = gatePinned g n level
 followed g (Clocks n) = gateAfter n g
 followed g Reset = resetGate g
 
@@ -45,7 +34,7 @@ opensBy g k (Write r v) = []
 opensBy g k (Read r) = []
 opensBy g k PortAcknowledge = []
 opensBy g k TimerAcknowledge = []
-opensBy g k (Pin n level) = mark (gatePinned g n level .opened) k []
+opensBy g k (Pin n level) = []
 opensBy g k (Clocks n) = gateOpenings n k g
 opensBy g k Reset = []
 
@@ -56,31 +45,13 @@ gate-follows d k (Write r v) = write-gate d r v
 gate-follows d k (Read r) = read-gate d r
 gate-follows d k PortAcknowledge = refl
 gate-follows d k TimerAcknowledge = refl
-gate-follows d k (Pin n level) = ap (λ (x : Gated). x .gate) (pin-gate d n level)
+gate-follows d k (Pin n level) = pin-gate d n level
 gate-follows d k (Clocks n) = ap (λ (x : Device). x .gate) (halves n d)
 gate-follows d k Reset = refl
 
--- a level at any pin, as far as it concerns the ports and pairs
-abbrev parallelPinned : Parallel → ℕ → Bool → Parallel
-parallelPinned p pin level =
-    pinned
-    (λ n. withPorts p (withOutside (p .a) (withBit (p .a .outside) n level)) (p .b))
-    (λ n. withPorts p (p .a) (withOutside (p .b) (withBit (p .b .outside) n level)))
-    (λ _. p)
-    (firstPin p H12 level)
-    (secondPin p H12 level)
-    (firstPin p H34 level)
-    (secondPin p H34 level)
-    p
-    pin
-
-pin-parallel : (d : Device) (n : ℕ) (level : Bool) → pinOf d n level .device .parallel ≡ parallelPinned (d .parallel) n level
-unfolding pinOf gated
-pin-parallel d n level = pinned-changed (λ (x : Stepped). x .device .parallel) _ _ _ _ _ _ _ _ n
-
 -- What an event leaves of the ports and pairs depends on them alone.
 pub parallel-follows : (c d : Device) (k : ℕ) (e : Event) → c .parallel ≡ d .parallel → effect c k e .device .parallel ≡ effect d k e .device .parallel
-unfolding effect writeOf readOf resetOf
+unfolding effect writeOf readOf resetOf pinOf
 parallel-follows c d k (Write r v) same =
     find-changed (λ (x : Device). x .parallel) (writes c v) c r
     ∙ (rw same)
@@ -88,7 +59,7 @@ parallel-follows c d k (Write r v) same =
 parallel-follows c d k (Read r) same = rw same
 parallel-follows c d k PortAcknowledge same = same
 parallel-follows c d k TimerAcknowledge same = same
-parallel-follows c d k (Pin n level) same = pin-parallel c n level ∙ ap (λ (p : Parallel). parallelPinned p n level) same ∙ sym (pin-parallel d n level)
+parallel-follows c d k (Pin n level) same = rw same
 parallel-follows c d k (Clocks n) same = rw (halves n c, halves n d, same)
 parallel-follows c d k Reset same = rw same
 
@@ -99,6 +70,6 @@ gate-opens d k (Write r v) = refl
 gate-opens d k (Read r) = refl
 gate-opens d k PortAcknowledge = refl
 gate-opens d k TimerAcknowledge = refl
-gate-opens d k (Pin n level) = ap (λ (x : Gated). mark (x .opened) k []) (pin-gate d n level)
+gate-opens d k (Pin n level) = refl
 gate-opens d k (Clocks n) = opens n k d
 gate-opens d k Reset = refl

@@ -35,7 +35,7 @@ use Rattle.parallel.specs.Data.{drawnBy, readData, sentBy, latchedBy, writeData
 use Rattle.parallel.specs.Fresh.{freshParallel, resetOf as resetParallel}
 use Rattle.parallel.specs.Interrupts.{firstStatusOf, secondStatusOf, statusesOf, enabledOf as interruptsOf, psrOf}
 use Rattle.parallel.specs.Parts.{linkOf, withLink, withPorts, withLinks, ownPort, rulesAt}
-use Rattle.parallel.specs.Pins.{pinsOf, assertsOf, firstEdge, secondEdge, withFirst, withSecond, firstPin, secondPin, secondLevel}
+use Rattle.parallel.specs.Pins.{pinsOf, assertsOf, firstEdge, secondEdge, withFirst, withSecond, firstPin, secondPin, parallelPins, parallelPinned, secondLevel}
 use Rattle.parallel.specs.Switching.{writePgcr, writePsrr, writeControl, writePsr}
 use Rattle.parallel.specs.declared.DataRead.{DataRead}
 use Rattle.parallel.specs.declared.Parallel.{Parallel}
@@ -43,11 +43,10 @@ use Rattle.device.specs.Clocking.{clockedDevice, after}
 use Rattle.device.specs.Events.{effect, made}
 use Rattle.device.specs.Fresh.{freshDevice, resetOf}
 use Rattle.device.specs.Parts.{deviceWith}
-use Rattle.device.specs.Pinned.{pinned as byPin, any-pin}
-use Rattle.device.specs.Pins.{pinsC, gated, pinOf}
+use Rattle.device.specs.Pinned.{pinned as byPin}
+use Rattle.device.specs.Pins.{pinsC, pinOf}
 use Rattle.device.specs.Registers.{readOf, writes, writeOf}
 use Rattle.device.specs.declared.Device.{Device}
-use Rattle.device.specs.declared.Stepped.{Stepped}
 use Rattle.laws.specs.Reads.{any-read}
 
 -- both vector registers 0F; alternates and data C read the pins, whose outside levels are high but PC2's, and PSR the levels of H4-H1
@@ -175,12 +174,11 @@ module _ (d : Device) (h : Unset (d .parallel)) where
       (λ _ _. h)
       (λ _. h)
 
-  pinned : (pin : ℕ) (level : Bool) → Unset (pinOf d pin level .device .parallel)
-  unfolding pinOf gated
+  pinned : (pin : ℕ) (level : Bool) → Unset (pinOf d pin level .parallel)
+  unfolding pinOf parallelPinned
   pinned pin level =
       let p = d .parallel in
-      any-pin (λ (x : Stepped). Unset (x .device .parallel)) _ _ _ _ _ _ _ _ pin (λ _. h)
-      (λ _ _. h)
+      each Unset (parallelPins p level) p pin (λ _. h)
       (λ _ _. h)
       (λ _ _. h)
       (λ _. first-level p h H12 level)

@@ -24,7 +24,7 @@ use Rattle.port.specs.declared.Strobe.{Strobe}
 use Rattle.port.specs.declared.Link.{Link}
 use Rattle.port_c.specs.Pins.{tinLevel}
 use Rattle.timer.specs.Control.{tcrBits, runsOf}
-use Rattle.timer.specs.Registers.{controlledOf}
+use Rattle.timer.specs.Registers.{switchedOf, controlledOf}
 use Rattle.timer.specs.declared.Timer.{Timer}
 use Rattle.gate.specs.Registers.{writeTcr}
 use Rattle.parallel.specs.Parts.{linkOf, withLink, withLinks}
@@ -58,7 +58,7 @@ tsr-unused d i l k =
 
 -- What is written to TCR, PSRR and PIVR reads back without the unused bits, and PIVR without its lower two.
 pub tcr-reads-back : (d : Device) (v : ℕ) → readOf (writeOf d TCR v) TCR .byte ≡ bitAnd v 0xf7
-unfolding readOf writeOf writeTcr controlledOf
+unfolding readOf writeOf writeTcr controlledOf switchedOf
 tcr-reads-back d v =
     branch (λ (t : Timer). t .tcr ≡ bitAnd v 0xf7) (runsOf (bitAnd v tcrBits) (tinLevel (d .gate .c))) _ _ (λ _. refl) (λ _. refl)
 

@@ -6,7 +6,7 @@ use Prim.Native.Nat.{ℕ, zero, suc, _<_, _-_}
 use native.Mathlib.Omega.{arith}
 use Rattle.bits.specs.Choice.{and-left, and-right, both}
 use Rattle.bits.specs.Tables.{each}
-use Rattle.event.specs.Map.{CPRH, PC0}
+use Rattle.event.specs.Map.{CPRH}
 use Rattle.event.specs.declared.Event.{Event}
 use Rattle.event.specs.declared.Event.the-variants.{Write, Read, PortAcknowledge, TimerAcknowledge, Pin, Clocks, Reset}
 use Rattle.port.specs.declared.Pair.the-variants.{H12, H34}
@@ -14,26 +14,24 @@ use Rattle.port_c.specs.Fresh.{freshC, resetC}
 use Rattle.port_c.specs.Pins.{tin, tinLevel}
 use Rattle.gate.specs.Clocking.{clockedGate}
 use Rattle.gate.specs.Fresh.{freshGate, resetGate}
-use Rattle.gate.specs.Pins.{tinEvent, lineEvent}
+use Rattle.gate.specs.Pins.{tinEvent}
 use Rattle.gate.specs.Registers.{writeTcr, writePreload, writeTsr}
 use Rattle.gate.specs.Validity.{soundGate}
 use Rattle.gate.specs.declared.Gate.{Gate}
-use Rattle.gate.specs.declared.Gated.{Gated}
+use Rattle.parallel.specs.Pins.{parallelPins, parallelPinned}
 use Rattle.parallel.specs.Validity.{soundOf as soundParallel}
 use Rattle.parallel.specs.declared.Parallel.{Parallel}
 use Rattle.device.specs.Parts.{withParallel, withGate}
 use Rattle.device.specs.Fresh.{freshDevice, resetOf}
-use Rattle.device.specs.Pinned.{any-pin}
-use Rattle.device.specs.Pins.{gated, pinOf}
+use Rattle.device.specs.Pins.{pinOf}
 use Rattle.device.specs.Registers.{takes, readOf, writes, writeOf}
 use Rattle.device.specs.Clocking.{clockedDevice, after}
 use Rattle.device.specs.Events.{effect, made}
 use Rattle.device.specs.Validity.{validOf}
 use Rattle.device.specs.declared.Device.{Device}
-use Rattle.device.specs.declared.Stepped.{Stepped}
 use Rattle.laws.specs.Parallels as parallels
 use Rattle.laws.specs.Timers as timers
-use Rattle.laws.specs.Touching.{Agree, any-line, tin-level}
+use Rattle.laws.specs.Touching.{Agree, any-gate-pin, tin-level}
 
 -- what refusal 8 asks of a device, half by half
 pub record Valid (d : Device) : Type 0 where
@@ -101,26 +99,25 @@ module _ (d : Device) (v : Valid d) where
       (λ _. parallels.read-sound H12 (d .parallel) (v .parallel))
       (λ _. parallels.read-sound H34 (d .parallel) (v .parallel)))
 
-  line-valid : (n : ℕ) (level : Bool) → SoundGate (lineEvent (d .gate) n level .gate)
-  unfolding tinEvent
-  line-valid n level =
-      any-line (λ (x : Gated). SoundGate (x .gate)) (d .gate) n level
-      (λ x u. untouched (d .gate) x u (v .gate))
-      (λ _. rw (tin-level (d .gate) level) (timers.tin-sound (d .gate .timer) (tinLevel (d .gate .c)) level (v .gate)))
-
-  pin-valid : (pin : ℕ) (level : Bool) → Valid (pinOf d pin level .device)
-  unfolding pinOf gated
+  pin-valid : (pin : ℕ) (level : Bool) → Valid (pinOf d pin level)
+  unfolding pinOf parallelPinned tinEvent
   pin-valid pin level =
       let p = d .parallel in
       let s = v .parallel in
-      any-pin (λ (x : Stepped). Valid (x .device)) _ _ _ _ _ _ _ _ pin (λ _. v)
-      (λ _ _. in-parallel _ (parallels.ports-sound p _ _ s))
-      (λ _ _. in-parallel _ (parallels.ports-sound p _ _ s))
-      (λ _ _. in-gate _ (line-valid (pin - PC0) level))
-      (λ _. in-parallel _ (parallels.first-pin-sound H12 level p s))
-      (λ _. in-parallel _ (parallels.second-pin-sound H12 level p s))
-      (λ _. in-parallel _ (parallels.first-pin-sound H34 level p s))
-      (λ _. in-parallel _ (parallels.second-pin-sound H34 level p s))
+      record {
+        parallel =
+            each parallels.Sound (parallelPins p level) p pin (λ _. s)
+            (λ _ _. parallels.ports-sound p _ _ s)
+            (λ _ _. parallels.ports-sound p _ _ s)
+            (λ _. parallels.first-pin-sound H12 level p s)
+            (λ _. parallels.second-pin-sound H12 level p s)
+            (λ _. parallels.first-pin-sound H34 level p s)
+            (λ _. parallels.second-pin-sound H34 level p s);
+        gate =
+            any-gate-pin SoundGate (d .gate) pin level
+            (λ x u. untouched (d .gate) x u (v .gate))
+            (λ _. rw (tin-level (d .gate) level) (timers.tin-sound (d .gate .timer) (tinLevel (d .gate .c)) level (v .gate)));
+      }
 
   clock-valid : Valid (clockedDevice d .device)
   unfolding clockedDevice clockedGate
@@ -145,8 +142,8 @@ pub read-stays : (d : Device) (r : ℕ) → validOf d ≡ true → validOf (read
 read-stays d r h = valid-out (readOf d r .device) (read-valid d (valid-in d h) r)
 
 -- A valid device stays valid through every pin event.
-pub pin-stays : (d : Device) (pin : ℕ) (level : Bool) → validOf d ≡ true → validOf (pinOf d pin level .device) ≡ true
-pin-stays d pin level h = valid-out (pinOf d pin level .device) (pin-valid d (valid-in d h) pin level)
+pub pin-stays : (d : Device) (pin : ℕ) (level : Bool) → validOf d ≡ true → validOf (pinOf d pin level) ≡ true
+pin-stays d pin level h = valid-out (pinOf d pin level) (pin-valid d (valid-in d h) pin level)
 
 -- A valid device stays valid through a clock.
 pub clock-stays : (d : Device) → validOf d ≡ true → validOf (clockedDevice d .device) ≡ true

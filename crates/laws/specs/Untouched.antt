@@ -1,10 +1,10 @@
 -- What 01 does not touch stays, in a device that is refused too.
 use mathlib.Core.Path.{_≡_, refl}
-use mathlib.Core.Bool.{Bool, true, false, not, _&&_, _||_, true≢false}
+use mathlib.Core.Bool.{Bool, true, false, not, _&&_, true≢false}
 use Rattle.bits.specs.Choice.{if_then_else_}
 use Rattle.bits.specs.Field.{bitOf}
-use Rattle.timer.specs.Control.{sourceOf, runsOf}
-use Rattle.timer.specs.Counting.{quiet}
+use Rattle.timer.specs.Control.{sourceOf, runsOf, byRises}
+use Rattle.timer.specs.Parts.{withRise}
 use Rattle.timer.specs.Running.{haltedOf, tinGoes}
 use Rattle.timer.specs.declared.Timer.{Timer}
 use Rattle.port.specs.Control.{drivesOf}
@@ -14,28 +14,28 @@ use Rattle.port.specs.declared.Handshake.{Handshake}
 use Rattle.port.specs.declared.Handshake.the-variants.{Sense, Negated, Asserted, Interlocked, Pulsed}
 use Rattle.port.specs.declared.Strobe.{Strobe}
 
-still : (t : Timer) (level runs : Bool) → runsOf (t .tcr) level ≡ runs → tinGoes t level level ≡ quiet t
-unfolding tinGoes
-still t true true e = rw e
-still t false true e = rw e
-still t level false e = rw e
+still : (t : Timer) (level runs rises : Bool) → (if not runs then (if runs then haltedOf t else t) else if rises && (not level && level) then withRise t true else t) ≡ t
+still t level false rises = refl
+still t level true false = refl
+still t true true true = refl
+still t false true true = refl
 
 -- 'An edge happens only at a pin event that changes the level ..': a level that TIN has already does nothing to the timer.
-pub same-tin : (t : Timer) (level : Bool) → tinGoes t level level ≡ quiet t
-same-tin t level = still t level (runsOf (t .tcr) level) refl
+pub same-tin : (t : Timer) (level : Bool) → tinGoes t level level ≡ t
+unfolding tinGoes
+same-tin t level = still t level (runsOf (t .tcr) level) (byRises (t .tcr))
 
-without : (t : Timer) (runs falls : Bool) → (if not runs then quiet (if runs then haltedOf t else t) else if falls then quiet t else quiet t) ≡ quiet t
-without t true true = refl
-without t true false = refl
-without t false falls = refl
+without : (t : Timer) (runs : Bool) → (if not runs then (if runs then haltedOf t else t) else t) ≡ t
+without t true = refl
+without t false = refl
 
 -- '.. of a pin that is an input': with source 00 PC2 is no TIN, and its level does nothing to the timer.
-pub no-input : (t : Timer) (old new : Bool) → sourceOf (t .tcr) ≡ 0 → tinGoes t old new ≡ quiet t
-unfolding tinGoes runsOf
-no-input t old new clk = rw clk (without t (bitOf (t .tcr) 0 && true) (old || not new))
+pub no-input : (t : Timer) (old new : Bool) → sourceOf (t .tcr) ≡ 0 → tinGoes t old new ≡ t
+unfolding tinGoes runsOf byRises
+no-input t old new clk = rw clk (without t (bitOf (t .tcr) 0 && true))
 
 -- A timer that runs at neither level stays as it is, whether it is halted as stated or not.
-pub halted-alone : (t : Timer) (old new : Bool) → runsOf (t .tcr) old ≡ false → runsOf (t .tcr) new ≡ false → tinGoes t old new ≡ quiet t
+pub halted-alone : (t : Timer) (old new : Bool) → runsOf (t .tcr) old ≡ false → runsOf (t .tcr) new ≡ false → tinGoes t old new ≡ t
 unfolding tinGoes
 halted-alone t old new was is = rw (is, was)
 

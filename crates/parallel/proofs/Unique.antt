@@ -13,6 +13,7 @@ use Rattle.parallel.proofs.Parallel.acknowledge.Reads as acknowledge-re
 use Rattle.parallel.proofs.Parallel.pins.Reads as pins-reads
 use Rattle.parallel.proofs.Parallel.first_pin.Reads as first-pin-reads
 use Rattle.parallel.proofs.Parallel.second_pin.Reads as second-pin-reads
+use Rattle.parallel.proofs.Parallel.pin.Reads as pin-reads
 use Rattle.parallel.proofs.Parallel.second_level.Reads as second-level-reads
 use Rattle.parallel.proofs.Parallel.write_pgcr.Reads as write-pgcr-reads
 use Rattle.parallel.proofs.Parallel.write_psrr.Reads as write-psrr-reads
@@ -56,6 +57,9 @@ first-pin κs a r r' s s' p q = p ∙ sym q
 
 pub second-pin : OneResult second-pin-reads.Post
 second-pin κs a r r' s s' p q = p ∙ sym q
+
+pub pin : OneResult pin-reads.Post
+pin κs a r r' s s' p q = p ∙ sym q
 
 pub second-level : OneResult second-level-reads.Post
 second-level κs a r r' s s' p q = p ∙ sym q

@@ -2,17 +2,20 @@
 -- 1.2.8, 1.2.9, 2.4 and 2.6).
 use Prim.Native.Nat.{ℕ}
 use mathlib.Core.Bool.{Bool, not, _&&_, Bool·beq}
+use mathlib.Core.List.{List, [], _∷_}
 use Rattle.bits.specs.Choice.{if_then_else_}
-use Rattle.bits.specs.Field.{chosenOf}
+use Rattle.bits.specs.Field.{chosenOf, withBit}
+use Rattle.bits.specs.Tables.{Entry, at, from, find}
+use Rattle.event.specs.Map.{PA0, PB0, H1, H2, H3, H4, lines}
 use Rattle.port.specs.Control.{firstSense, secondSense}
 use Rattle.port.specs.Moving.{movedOf}
 use Rattle.port.specs.Handshaking.{acceptsOf}
-use Rattle.port.specs.Parts.{withLevels}
+use Rattle.port.specs.Parts.{withOutside, withLevels}
 use Rattle.port.specs.Edges.{firstEdge as firstLink, secondEdge as secondLink}
 use Rattle.port.specs.Status.{secondLevel as linkLevel}
 use Rattle.port.specs.declared.Pair.{Pair}
 use Rattle.port.specs.declared.Pair.the-variants.{H12, H34}
-use Rattle.parallel.specs.Parts.{linkOf, withLink, ownPort, withCells, rulesAt}
+use Rattle.parallel.specs.Parts.{linkOf, withLink, withPorts, ownPort, withCells, rulesAt}
 use Rattle.parallel.specs.declared.Parallel.{Parallel}
 
 -- the eight pins of a pair's own port: a pin whose output buffer is on shows its latch; otherwise the outside level
@@ -62,6 +65,20 @@ unfoldable pub secondPin : Parallel → Pair → Bool → Parallel
 secondPin p pair level =
     if assertsOf (linkOf p pair .level2) level (secondSense pair (p .pgcr)) then secondEdge (withSecond p pair level) pair
     else withSecond p pair level
+
+-- a level comes to any pin, as far as it concerns ports A and B and the pairs: it is remembered, also where the pin is driven
+abbrev pub parallelPins : Parallel → Bool → List (Entry Parallel)
+parallelPins p level =
+    from PA0 lines (λ n. withPorts p (withOutside (p .a) (withBit (p .a .outside) n level)) (p .b))
+    ∷ from PB0 lines (λ n. withPorts p (p .a) (withOutside (p .b) (withBit (p .b .outside) n level)))
+    ∷ at H1 (firstPin p H12 level)
+    ∷ at H2 (secondPin p H12 level)
+    ∷ at H3 (firstPin p H34 level)
+    ∷ at H4 (secondPin p H34 level)
+    ∷ []
+
+unfoldable pub parallelPinned : Parallel → ℕ → Bool → Parallel
+parallelPinned p pin level = find (parallelPins p level) p pin
 
 -- the level of H2 or H4, with its sense bit of PGCR
 unfoldable pub secondLevel : Parallel → Pair → Bool

@@ -16,10 +16,13 @@ impl Parallel {
         self
     }
 
-    // n clocks at once.
+    // n clocks at once. Where neither handshake waits or pulses they change nothing.
     pub fn clocks(mut self, n: u32) -> Parallel
         ensures { λ r. ⌜ r ≡ clocksOf n self ⌝ }
     {
+        if self.h12.untimed() & self.h34.untimed() {
+            return self;
+        }
         let one = self.rules(Pair::H12);
         let two = self.rules(Pair::H34);
         self.h12 = self.h12.clocks(one, n);

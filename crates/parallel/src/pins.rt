@@ -1,10 +1,11 @@
 // What the pins of ports A and B and the handshake pins show, and levels that come to the handshake pins (01, 'Registers', 'Mode 0').
 use crate::Parallel;
+use event::map;
 use port::Pair;
 use port::control::first_sense;
 use port::control::second_sense;
 ghost use mathlib.Core.Path.{_≡_};
-ghost use Rattle.parallel.specs.Pins.{pinsOf, assertsOf, firstEdge, secondEdge, withSecond, firstPin, secondPin, secondLevel};
+ghost use Rattle.parallel.specs.Pins.{pinsOf, assertsOf, firstEdge, secondEdge, withSecond, firstPin, secondPin, parallelPinned, secondLevel};
 
 // A pin goes from one outside level to another: it comes to be asserted.
 fn asserts(old: bool, new: bool, sense: bool) -> bool
@@ -98,6 +99,29 @@ impl Parallel {
             return self.with_second(pair, level).second_edge(pair);
         }
         self.with_second(pair, level)
+    }
+
+    // A level comes to any pin, as far as it concerns ports A and B and the pairs.
+    pub fn pin(mut self, pin: u8, level: bool) -> Parallel
+        ensures { λ r. ⌜ r ≡ parallelPinned self pin level ⌝ }
+    {
+        match pin {
+            map::PA0..=map::PA7 => {
+                let byte = bits::with_bit(self.a.outside, pin, level);
+                self.a.outside = byte;
+                self
+            }
+            map::PB0..=map::PB7 => {
+                let byte = bits::with_bit(self.b.outside, pin - map::PB0, level);
+                self.b.outside = byte;
+                self
+            }
+            map::H1 => self.first_pin(Pair::H12, level),
+            map::H2 => self.second_pin(Pair::H12, level),
+            map::H3 => self.first_pin(Pair::H34, level),
+            map::H4 => self.second_pin(Pair::H34, level),
+            _ => self,
+        }
     }
 
     // The level of H2 or H4.

@@ -65,10 +65,7 @@ abbrev pub high : ℕ → Bool
 high level = not (eqb level 0)
 
 unfoldable pub pinCall : List ℕ → ℕ → ℕ → List ℕ
-pinCall l pin level = changed l (λ d. pinOf d pin (high level) .device)
-
-unfoldable pub pinAnswer : List ℕ → ℕ → ℕ → ℕ
-pinAnswer l pin level = answered l (λ d. flagByte (pinOf d pin (high level) .opened))
+pinCall l pin level = changed l (λ d. pinOf d pin (high level))
 
 -- n clocks after clock k
 unfoldable pub clocksCall : List ℕ → ℕ → List ℕ

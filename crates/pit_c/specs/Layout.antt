@@ -14,7 +14,7 @@ use Rattle.device.specs.declared.Device.{Device}
 
 -- how many bytes a device takes
 abbrev pub size : ℕ
-size = 52
+size = 53
 
 -- a flag: 1 or 0
 abbrev pub flagByte : Bool → ℕ
@@ -75,6 +75,7 @@ rowOf d =
     ∷ flagByte (d .parallel .h12 .level2)
     ∷ flagByte (d .parallel .h34 .level1)
     ∷ flagByte (d .parallel .h34 .level2)
+    ∷ flagByte (d .gate .timer .phase .rise)
     ∷ []
 
 -- the same under a name that everything else goes by, and that is not spelled out there
@@ -160,6 +161,7 @@ gateWith l preload count = record {
       zds = flagAt l 42;
       square = flagAt l 43;
       due = flagAt l 44;
+      rise = flagAt l 52;
     };
   };
   c = record {

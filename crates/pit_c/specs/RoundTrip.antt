@@ -50,7 +50,7 @@ taken-fits l b = record { preload = number-lt l b preloadPlace; count = number-l
 
 -- where the flags stand
 abbrev pub flagPlaces : List ℕ
-flagPlaces = 13 ∷ 14 ∷ 15 ∷ 26 ∷ 27 ∷ 28 ∷ 42 ∷ 43 ∷ 44 ∷ 48 ∷ 49 ∷ 50 ∷ 51 ∷ []
+flagPlaces = 13 ∷ 14 ∷ 15 ∷ 26 ∷ 27 ∷ 28 ∷ 42 ∷ 43 ∷ 44 ∷ 48 ∷ 49 ∷ 50 ∷ 51 ∷ 52 ∷ []
 
 -- a place is one of these
 abbrev pub among : ℕ → List ℕ → Bool

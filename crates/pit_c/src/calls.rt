@@ -18,9 +18,9 @@ use timer::ClockNumber;
 ghost use mathlib.Core.Path.{_≡_};
 ghost use lib.ListN.{length};
 ghost use Rattle.parallel.specs.Data.{readData, writeData};
-ghost use Rattle.parallel.specs.Pins.{firstPin, secondPin};
+ghost use Rattle.parallel.specs.Pins.{parallelPinned};
 ghost use Rattle.pit_c.specs.Layout.{size, parallelOf, bytesBeside};
-ghost use Rattle.pit_c.specs.Calls.{done, freshCall, validAnswer, writeCall, readCall, readAnswer, pinCall, pinAnswer};
+ghost use Rattle.pit_c.specs.Calls.{done, freshCall, validAnswer, writeCall, readCall, readAnswer, pinCall};
 ghost use Rattle.pit_c.specs.Calls.{clocksCall, clocksRow, clocksOpened, resetCall};
 ghost use Rattle.pit_c.specs.Calls.{answerNumber, portAcknowledgeAnswer, timerAcknowledgeAnswer, levelsOf, levelsAnswer};
 
@@ -80,23 +80,13 @@ fn read_data(device: &mut [u8], pair: Pair) -> u32
     got.byte as u32
 }
 
-// A level comes to H1 or H3.
-fn first_pin(device: &mut [u8], pair: Pair, level: bool) -> u32
+// A level comes to a pin that is not port C's.
+fn parallel_pin(device: &mut [u8], pin: u8, level: bool) -> u32
     requires { ⌜ length (now device) ≡ size ⌝ }
     ensures answer { λ r. ⌜ r ≡ 0 ⌝ }
-    ensures device { λ _. ⌜ now (device .exit) ≡ bytesBeside (now (device .entry)) (firstPin (parallelOf (now (device .entry))) pair level) ⌝ }
+    ensures device { λ _. ⌜ now (device .exit) ≡ bytesBeside (now (device .entry)) (parallelPinned (parallelOf (now (device .entry))) pin level) ⌝ }
 {
-    put_parallel(parallel_of(device).first_pin(pair, level), device);
-    0
-}
-
-// A level comes to H2 or H4.
-fn second_pin(device: &mut [u8], pair: Pair, level: bool) -> u32
-    requires { ⌜ length (now device) ≡ size ⌝ }
-    ensures answer { λ r. ⌜ r ≡ 0 ⌝ }
-    ensures device { λ _. ⌜ now (device .exit) ≡ bytesBeside (now (device .entry)) (secondPin (parallelOf (now (device .entry))) pair level) ⌝ }
-{
-    put_parallel(parallel_of(device).second_pin(pair, level), device);
+    put_parallel(parallel_of(device).pin(pin, level), device);
     0
 }
 
@@ -166,23 +156,17 @@ pub extern "C" fn pit_read(device: &mut [u8], number: u8) -> u32
 // An outside level comes to a pin.
 #[no_mangle]
 pub extern "C" fn pit_pin(device: &mut [u8], pin: u8, level: u8) -> u32
-    ensures answer { λ r. ⌜ r ≡ pinAnswer (now (device .entry)) pin level ⌝ }
+    ensures answer { λ r. ⌜ r ≡ done (now (device .entry)) ⌝ }
     ensures device { λ _. ⌜ now (device .exit) ≡ pinCall (now (device .entry)) pin level ⌝ }
 {
     if device.len() != SIZE {
         return WRONG_SIZE;
     }
-    match pin {
-        map::H1 => first_pin(device, Pair::H12, level != 0),
-        map::H2 => second_pin(device, Pair::H12, level != 0),
-        map::H3 => first_pin(device, Pair::H34, level != 0),
-        map::H4 => second_pin(device, Pair::H34, level != 0),
-        _ => {
-            let stepped = device_of(device).pin(pin, level != 0);
-            put_device(stepped.device, device);
-            stepped.opened as u32
-        }
+    if (map::PC0 <= pin) & (pin <= map::PC7) {
+        put_device(device_of(device).pin(pin, level != 0), device);
+        return 0;
     }
+    parallel_pin(device, pin, level != 0)
 }
 
 // Clocks pass, after those that passed before. The numbers of those that open go into the row, as far as it reaches, and how many

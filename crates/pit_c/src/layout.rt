@@ -19,7 +19,7 @@ ghost use Rattle.pit_c.specs.Layout.{size, sideSize, numberOf, numberAt,
 ghost use Rattle.pit_c.specs.Layout.{deviceOf, bytesBeside};
 
 // How many bytes a device takes.
-pub(crate) const SIZE: usize = 52;
+pub(crate) const SIZE: usize = 53;
 
 // The number of four bytes, least significant first.
 pub(crate) fn number_of(b0: u8, b1: u8, b2: u8, b3: u8) -> u32
@@ -94,6 +94,7 @@ fn bytes_of(d: Device) -> [u8; SIZE]
         d.parallel.h12.level2 as u8,
         d.parallel.h34.level1 as u8,
         d.parallel.h34.level2 as u8,
+        d.gate.timer.phase.rise as u8,
     ]
 }
 
@@ -184,6 +185,7 @@ fn gate_with(l: &[u8], preload: u32, count: u32) -> Gate
                 zds: l[42] != 0,
                 square: l[43] != 0,
                 due: l[44] != 0,
+                rise: l[52] != 0,
             },
         },
         c: PortC {

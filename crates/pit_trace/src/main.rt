@@ -68,10 +68,7 @@ fn happened(d: Device, event: Event) -> Device {
             got.device
         }
         Event::PortAcknowledge | Event::TimerAcknowledge => d,
-        Event::Pin(pin, level) => {
-            let stepped = d.pin(pin, level);
-            stepped.device
-        }
+        Event::Pin(pin, level) => d.pin(pin, level),
         Event::Clocks(n) => clocked(d, n),
         Event::Reset => d.reset(),
     }

@@ -1,5 +1,5 @@
 -- What each event leaves of a run, from what the device's method and the stores for it left.
-use Prim.Native.Nat.{ℕ, zero, suc, _+_, _<_}
+use Prim.Native.Nat.{ℕ, zero, suc, _+_, _-_, _≤_, _<_}
 use mathlib.Core.Path.{_≡_, refl, sym, ap, _∙_}
 use mathlib.Core.Bool.{Bool, true, false}
 use mathlib.Core.List.{List, [], _∷_, map}
@@ -7,6 +7,7 @@ use native.Mathlib.Nat.{add-zero, mod-eq-of-lt}
 use native.Mathlib.Omega.{arith}
 use lib.ListN.{length}
 use lib.Seq.{sets}
+use Rattle.event.specs.Map.{PC0, H1}
 use Rattle.event.specs.declared.Answer.{Answer}
 use Rattle.event.specs.declared.Event.{Event}
 use Rattle.event.specs.declared.Event.the-variants.{Write, Read, PortAcknowledge, TimerAcknowledge, Pin, Clocks, Reset}
@@ -15,13 +16,17 @@ use Rattle.clocks.specs.Clocks.{numbers, clockNumber}
 use Rattle.device.specs.Clocking.{clockedDevice, openings, runOf}
 use Rattle.device.specs.Fresh.{resetOf}
 use Rattle.device.specs.Interrupts.{portAcknowledge, timerAcknowledge}
-use Rattle.device.specs.Pins.{pinOf}
+use Rattle.gate.specs.Pins.{lineEvent}
+use Rattle.gate.specs.declared.Gate.{Gate}
+use Rattle.parallel.specs.Pins.{parallelPinned}
+use Rattle.parallel.specs.declared.Parallel.{Parallel}
+use Rattle.device.specs.Parts.{withParallel, withGate}
+use Rattle.device.specs.Pins.{at-port-c, other-pins}
 use Rattle.device.specs.Registers.{readOf, writeOf}
 use Rattle.device.specs.Events.{Made, answerBytes, silently, answering, effect}
 use Rattle.device.specs.declared.Device.{Device}
 use Rattle.device.specs.declared.ReadOut.{ReadOut}
 use Rattle.device.specs.declared.Run.{Run}
-use Rattle.device.specs.declared.Stepped.{Stepped}
 use Rattle.survey.specs.Needed.{two-bytes}
 
 -- a run so far: the device by now, how many answer bytes and openings there were, and how many clocks passed
@@ -70,6 +75,18 @@ module _ {t : Tally} {A R : List ℕ} where
   unfolding effect
   wrote r v p = quiet p
 
+  -- a level at a pin that is none of port C's changes ports and pairs alone
+  pub pinned : (n : ℕ) (level : Bool) {x : Parallel} → (PC0 ≤ n → n < H1 → ⊥) → x ≡ parallelPinned (t .device .parallel) n level
+      → Leaves t A R (effect (t .device) (t .clocks) (Pin n level)) (tally (withParallel (t .device) x) (t .answers) (t .openings) (t .clocks)) A R
+  unfolding effect
+  pinned n level another p = quiet (ap (withParallel (t .device)) p ∙ sym (other-pins (t .device) n level another))
+
+  -- and one at port C the gate
+  pub lined : (n : ℕ) (level : Bool) {x : Gate} → PC0 ≤ n → n < H1 → x ≡ lineEvent (t .device .gate) (n - PC0) level
+      → Leaves t A R (effect (t .device) (t .clocks) (Pin n level)) (tally (withGate (t .device) x) (t .answers) (t .openings) (t .clocks)) A R
+  unfolding effect
+  lined n level low high p = quiet (ap (withGate (t .device)) p ∙ sym (at-port-c (t .device) n level low high))
+
   pub was-reset : {x : Device} → x ≡ resetOf (t .device)
       → Leaves t A R (effect (t .device) (t .clocks) Reset) (tally x (t .answers) (t .openings) (t .clocks)) A R
   unfolding effect
@@ -108,19 +125,6 @@ module _ {t : Tally} {A R : List ℕ} where
       → Leaves t A R (effect (t .device) (t .clocks) TimerAcknowledge) (tally (t .device) (t .answers + 2) (t .openings) (t .clocks)) A′ R
   unfolding effect
   timer-acknowledged p q = acknowledged p q
-
-  pub pinned : (n : ℕ) (level : Bool) {x : Stepped} {j : ℕ} {R′ : List ℕ} → x ≡ pinOf (t .device) n level
-      → (j ≡ length (mark (x .opened) (t .clocks) [])) × (R′ ≡ sets R (t .openings) (mark (x .opened) (t .clocks) []))
-      → Leaves t A R (effect (t .device) (t .clocks) (Pin n level)) (tally (x .device) (t .answers) (t .openings + j) (t .clocks)) A R′
-  unfolding effect
-  pinned n level p q = record {
-    device = ap (λ (y : Stepped). y .device) p;
-    answers = sym (add-zero (t .answers));
-    openings = ap (λ (i : ℕ). t .openings + i) (q .0 ∙ ap (λ (y : Stepped). length (mark (y .opened) (t .clocks) [])) p);
-    clocks = refl;
-    bytes = refl;
-    row = q .1 ∙ ap (λ (y : Stepped). sets R (t .openings) (mark (y .opened) (t .clocks) [])) p;
-  }
 
   pub clocked : (n : ℕ) {x : Run} {R′ : List ℕ} → t .clocks + n < numbers
       → (x ≡ runOf n (t .clocks) (t .device)) × (R′ ≡ sets R (t .openings) (map clockNumber (openings n (t .clocks) (t .device))))

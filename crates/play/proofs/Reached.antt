@@ -74,11 +74,11 @@ module _ (t : Tally) (A R : List ℕ) (e : Event) where
   event-first t′ A′ R′ w P =
       (λ i. endingOf (tally (w .device i) (w .answers i) (w .openings i) (w .clocks i)) (w .bytes i) (w .row i) P) ∙ effect-first P
 
--- what a run that has come to a bit can have counted: two answer bytes or an opening between clocks stand for at least three bits,
--- and at most 65,536 clocks for 19
+-- what a run that has come to a bit can have counted: two answer bytes stand for at least three bits, and at most 65,536 clocks for
+-- 19, of which each opens once at most
 pub record Counted (t : Tally) (at : ℕ) : Type 0 where
   pub answered : t .answers ≤ at
-  pub opened : t .openings ≤ t .clocks + at
+  pub opened : t .openings ≤ t .clocks
   pub clocked : 19 * t .clocks ≤ mostClocks * at
 
 pub record Reached (s A₀ R₀ : List ℕ) (d₀ : Device) (A R : List ℕ) (t : Tally) (at : ℕ) : Type 0 where

@@ -2,9 +2,9 @@
 use crate::playing::Outcome;
 use crate::storing::acknowledge;
 use crate::storing::answer;
-use crate::storing::note_opening;
 use device::Device;
 use event::Event;
+use event::map;
 use timer::ClockNumber;
 use wire::Next;
 ghost use Rattle.play.specs.Run.{Runs};
@@ -57,10 +57,12 @@ pub(crate) fn run(list: &[u8], given: Device, answers: &mut [u8], row: &mut [u32
                 continue;
             }
             Event::Pin(pin, level) => {
-                let stepped = device.pin(pin, level);
-                let left = stepped.device;
-                device = left;
-                opened += note_opening(row, opened, stepped.opened, clocks);
+                // A level concerns the half that has the pin, which is changed where it stands (docs/PERFORMANCE.md).
+                if (map::PC0 <= pin) & (pin <= map::PC7) {
+                    device.gate = device.gate.line(pin - map::PC0, level);
+                    continue;
+                }
+                device.parallel = device.parallel.pin(pin, level);
                 continue;
             }
             Event::Clocks(n) => {

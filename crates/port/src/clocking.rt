@@ -2,7 +2,7 @@
 use crate::Link;
 use crate::Rules;
 ghost use mathlib.Core.Path.{_≡_};
-ghost use Rattle.port.specs.Clocking.{clockedLink, clocksOf};
+ghost use Rattle.port.specs.Clocking.{clockedLink, untimedOf, clocksOf};
 
 impl Link {
     // One clock.
@@ -12,6 +12,13 @@ impl Link {
         let handshake = rules.handshake;
         self.strobe = self.strobe.clocked(handshake);
         self
+    }
+
+    // Neither a wait nor a pulse runs: clocks change nothing.
+    pub fn untimed(self) -> bool
+        ensures { λ r. ⌜ r ≡ untimedOf self ⌝ }
+    {
+        (self.strobe.wait == 0) & (self.strobe.pulse == 0)
     }
 
     // n clocks at once.

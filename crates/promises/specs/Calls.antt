@@ -1,15 +1,16 @@
 -- The openings of a whole call: which numbers stand in the lent row (01, 'The event list', 'Timer').
-use Prim.Native.Nat.{ℕ}
+use Prim.Native.Nat.{ℕ, _<_}
 use mathlib.Core.Bool.{true}
 use mathlib.Core.List.{List, []}
 use mathlib.Core.Path.{_≡_, refl, sym, ap, _∙_}
 use native.Mathlib.Omega.{arith}
 use lib.Dec.{ltb}
-use lib.ListN.{length, drop}
+use lib.ListN.{getD, length, drop, List·getD-append}
 use lib.Seq.{take-append-seam}
 use Rattle.bits.specs.Choice.{both-arms}
 use Rattle.event.specs.declared.Event.{Event}
 use Rattle.clocks.specs.NeverOpens.{Barren}
+use Rattle.clocks.specs.Numbers.{Rising, apart}
 use Rattle.wire.specs.List.{Parsed, events, refused, parsed}
 use Rattle.wire.specs.Refusals.{one-to-five}
 use Rattle.wire.specs.Needs.{needsOf}
@@ -22,7 +23,7 @@ use Rattle.survey.specs.Needed.{answers-needed}
 use Rattle.promises.specs.Refusals.{tests}
 use Rattle.promises.specs.Effects.{stored, accepted-is-the-fold, rests-kept}
 use Rattle.promises.specs.Moments.{singly, moments}
-use Rattle.promises.specs.Openings.{Ordered, openings-are-moments, in-order}
+use Rattle.promises.specs.Openings.{openings-are-moments, rise-strictly}
 use Rattle.promises.specs.NeverOpens.{AllFruitless, nothing-opens}
 use Rattle.promises.specs.GateAlone.{gate-alone}
 
@@ -34,8 +35,8 @@ pub record StoresMoments (s : List ℕ) (d : Device) (lent : List ℕ) (x : Resu
   pub numbers : stored x ≡ moments d 0 (singly es)
   -- the total is how many they are
   pub total : x .outcome .openings ≡ length (moments d 0 (singly es))
-  -- they stand in order, and none is past the clocks that have passed
-  pub ordered : Ordered 0 (x .outcome .clocks) (stored x)
+  -- they rise strictly (02, R-2), and none is past the clocks that have passed
+  pub rising : Rising 0 (x .outcome .clocks) (stored x)
   -- entries past them keep what they held
   pub rest : drop (x .outcome .openings) (x .openings) ≡ drop (x .outcome .openings) lent
 
@@ -61,9 +62,18 @@ module _ (s : List ℕ) (d : Device) (answers openings : List ℕ) where
         read = f .read;
         numbers = same ∙ are;
         total = rw (f .result) (ap length are);
-        ordered = rw (same, f .result) (in-order (f .es) d 0);
+        rising = rw (same, f .result) (rise-strictly (f .es) d 0);
         rest = rests-kept s d answers openings .row;
       }
+
+  -- So of any two of its numbers the later is the greater, and none stands twice.
+  pub no-number-twice : call .outcome .refusal ≡ 0 → (i j : ℕ) → i < j → j < call .outcome .openings → getD (call .openings) i 0 < getD (call .openings) j 0
+  no-number-twice accepted i j before within =
+      let f = accepted-is-the-fold s d answers openings accepted in
+      let l = made d 0 (f .es) .openings in
+      let some : j < length l = rw (f .result) at within in
+      rw (f .result, List·getD-append l _ 0 i (omega arith), List·getD-append l _ 0 j some)
+      (apart 0 (made d 0 (f .es) .clocks) l i j (rise-strictly (f .es) d 0) before some)
 
   -- With reload and preload 0 throughout nothing is stored, whether the call is accepted or refused.
   pub barren-stores-nothing : (es : List Event) → parsed s ≡ events es → Barren (d .gate .timer) → AllFruitless es → StoresNothing openings call

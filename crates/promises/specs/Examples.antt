@@ -1,9 +1,9 @@
--- 01's lists to try, P1 to P12, in one table.
+-- 01's lists to try, P1 to P12, and an example of 02, R-2, in one table.
 use Prim.Native.Nat.{ℕ}
 use mathlib.Core.List.{List, [], _∷_, _++_, map}
 use mathlib.Core.Path.{_≡_, refl, ap, _∙_}
 use lib.ListN.{take, replicate}
-use Rattle.bits.specs.Field.{bitOf, fieldOf}
+use Rattle.bits.specs.Field.{bitOf, fieldOf, withBit}
 use Rattle.port.specs.Buffering.{storedCount}
 use Rattle.port.specs.Control.{modeOf, submodeField, handshakeField, wayOf, handshakeOf, enabledOf, firstSense, secondSense, rulesOf}
 use Rattle.port.specs.Moving.{storedOf, shiftedOf, movedOf, movedCount}
@@ -18,9 +18,9 @@ use Rattle.port_c.specs.Pins.{tinLevel}
 use Rattle.interrupt.specs.Enabling.{dmaOf, enabledIn}
 use Rattle.interrupt.specs.Priority.{orders, rankedOf, flagOf, firstOf, highestOf}
 use Rattle.interrupt.specs.Answering.{offsetOf, vectorOf, answerOf, acknowledgeOf}
-use Rattle.timer.specs.Control.{sourceOf, runsOf, clockSteps}
+use Rattle.timer.specs.Control.{sourceOf, runsOf, byRises, clockSteps}
 use Rattle.timer.specs.Counting.{scaledOf, atZeroOf, countOf, stepOf}
-use Rattle.timer.specs.Running.{clockedTimer}
+use Rattle.timer.specs.Running.{tinGoes, takesRise, risenOf, clockedTimer}
 use Rattle.timer.specs.Registers as timerRegisters
 use Rattle.timer.specs.Validity as timerValidity
 use Rattle.wire.specs.Field.{fieldAt}
@@ -28,6 +28,7 @@ use Rattle.wire.specs.Next.{sizeOf, closeAt, pinOrRefusal, eventAt, nextAt}
 use Rattle.wire.specs.List.{parse, rest}
 use Rattle.gate.specs.Clocking.{clockedGate}
 use Rattle.gate.specs.Fresh.{freshGate}
+use Rattle.gate.specs.Pins.{tinEvent, lineEvent, gatePinned}
 use Rattle.gate.specs.Registers.{writeTcr, writePreload}
 use Rattle.gate.specs.Validity.{soundGate}
 use Rattle.parallel.specs.Parts.{linkOf, withLink, ownPort, rulesAt}
@@ -38,7 +39,6 @@ use Rattle.parallel.specs.Clocking.{clockedParallel, clocksOf}
 use Rattle.parallel.specs.Fresh.{freshParallel}
 use Rattle.parallel.specs.Validity as parallelValidity
 use Rattle.device.specs.Fresh.{freshDevice}
-use Rattle.device.specs.Pinned.{pinned}
 use Rattle.device.specs.Pins.{pinOf}
 use Rattle.device.specs.Registers.{readOf, writeOf}
 use Rattle.device.specs.Clocking.{clockedDevice, after, openings}
@@ -78,14 +78,14 @@ unfolding
     playOf validOf made effect
     parse rest nextAt eventAt closeAt pinOrRefusal sizeOf fieldAt
     bitOf fieldOf
-    sourceOf runsOf timerValidity.soundOf timerValidity.restsOf timerRegisters.freshTimer timerRegisters.controlledOf timerRegisters.preloadedOf timerRegisters.withByte
+    sourceOf runsOf timerValidity.soundOf timerValidity.restsOf timerRegisters.freshTimer timerRegisters.switchedOf timerRegisters.controlledOf timerRegisters.preloadedOf timerRegisters.withByte
     modeOf submodeField handshakeField wayOf handshakeOf enabledOf firstSense secondSense rulesOf movableOf storedCount storedOf shiftedOf movedOf movedCount statusIn
     linkValidity.soundOf linkValidity.rangesOf linkValidity.allowedOf linkValidity.strobedOf
     edges.restartedOf edges.flushedOf edges.firstEdge edges.secondEdge readiedOf beginsOf pgcrWritten controlWritten freshPort freshLink
-    linkOf withLink ownPort rulesAt pins.pinsOf pins.assertsOf pins.firstEdge pins.secondEdge pins.withFirst pins.withSecond pins.firstPin pins.secondPin
+    linkOf withLink ownPort rulesAt pins.pinsOf pins.assertsOf pins.firstEdge pins.secondEdge pins.withFirst pins.withSecond pins.firstPin pins.secondPin pins.parallelPinned
     writePgcr writePsrr writePivr writeControl freshParallel parallelValidity.soundOf
-    tinLevel freshC freshGate writeTcr writePreload soundGate
-    freshDevice readOf writeOf pinned pinOf
+    tinLevel freshC freshGate writeTcr writePreload soundGate tinGoes byRises tinEvent lineEvent withBit
+    freshDevice readOf writeOf gatePinned pinOf
     dmaOf enabledIn orders rankedOf flagOf firstOf highestOf offsetOf vectorOf answerOf acknowledgeOf
     interrupts.firstStatusOf interrupts.secondStatusOf interrupts.statusesOf interrupts.enabledOf interrupts.portAcknowledge
 found r = shownOf (playOf (r .list) freshDevice (replicate 2 0) (replicate (r .room) 0))
@@ -132,6 +132,8 @@ table =
     ∷ example (0x00 ∷ 0x10 ∷ 0x98 ∷ 0x4c ∷ 0x66 ∷ 0x13 ∷ 0x19 ∷ 0x87 ∷ []) 2 (shown 0 0 [] [] 2)
     -- the list that `pit-run` is shown with
     ∷ example (0x15 ∷ 0x01 ∷ 0x10 ∷ 0x01 ∷ 0xa0 ∷ 0x0f ∷ 0xe7 ∷ 0x5c ∷ []) 2 (shown 0 0 (1 ∷ 1 ∷ []) (64 ∷ 128 ∷ []) 0)
+    -- 02, R-2: preload 1, TCR 07, PC2 high, low, high, 1 clock, PC2 low, high, 1 clock: the two rises before the first clock count once
+    ∷ example (0x15 ∷ 0x01 ∷ 0x10 ∷ 0x07 ∷ 0x92 ∷ 0xc9 ∷ 0x24 ∷ 0xb4 ∷ 0x00 ∷ 0x02 ∷ 0x49 ∷ 0x25 ∷ 0xa0 ∷ 0x00 ∷ 0x1c ∷ []) 2 (shown 0 0 [] (2 ∷ []) 0)
     ∷ []
 
 -- each of some examples shows what is wanted
@@ -145,6 +147,6 @@ each (x ∷ xs) h = rw (h .0, each xs (h .1))
 
 -- Every row of the table shows what is wanted.
 pub every-row : map found table ≡ map (λ x. x .wanted) table
-unfolding found after openings clockedDevice clockedParallel clockedGate clockSteps scaledOf atZeroOf countOf stepOf clockedTimer clockedStrobe
+unfolding found after openings clockedDevice clockedParallel clockedGate clockSteps scaledOf atZeroOf countOf stepOf takesRise risenOf clockedTimer clockedStrobe
 every-row =
-    each table (refl, (refl, (refl, (refl, (refl, (refl, (refl, (never, (refl, (refl, (refl, (refl, (refl, tt)))))))))))))
+    each table (refl, (refl, (refl, (refl, (refl, (refl, (refl, (never, (refl, (refl, (refl, (refl, (refl, (refl, tt))))))))))))))

@@ -12,23 +12,16 @@ use Rattle.event.specs.declared.Event.{Event}
 use Rattle.event.specs.declared.Event.the-variants.{Write, Read, PortAcknowledge, TimerAcknowledge, Pin, Clocks, Reset}
 use Rattle.port_c.specs.Fresh.{resetC}
 use Rattle.port_c.specs.Pins.{tin, tinLevel}
-use Rattle.timer.specs.Running.{mark}
 use Rattle.gate.specs.Fresh.{resetGate}
-use Rattle.gate.specs.Pins.{quietly, tinEvent, lineEvent, gatePins, gatePinned}
+use Rattle.gate.specs.Pins.{tinEvent, lineEvent, gatePins, gatePinned}
 use Rattle.gate.specs.Registers.{writeTcr, writePreload, writeTsr, gateWrites, gateWritten}
 use Rattle.gate.specs.declared.Gate.{Gate}
-use Rattle.gate.specs.declared.Gated.{Gated}
 use Rattle.device.specs.Events.{effect, made}
 use Rattle.device.specs.declared.Device.{Device}
 use Rattle.laws.specs.Bits.{with-bit}
 use Rattle.laws.specs.Following.{followed, opensBy, gate-follows, gate-opens}
 use Rattle.laws.specs.Touching.{Agree, gate-preload, tin-level}
 use Rattle.survey.specs.Needed.{event-clocks}
-
--- two gates that agree, and opened both or neither
-pub record AgreeOpened (x y : Gated) : Type 0 where
-  pub gate : Agree (x .gate) (y .gate)
-  pub opened : y .opened ≡ x .opened
 
 module _ (g h : Gate) (same : Agree g h) where
   -- a write leaves gates that agree so
@@ -46,34 +39,25 @@ module _ (g h : Gate) (same : Agree g h) where
       (λ e. rw e (record { timer = rw t; tin = same .tin }))
 
   -- so does a level at a line of port C
-  tin-moves : (level : Bool) → (tinEvent h level .gate .timer ≡ tinEvent g level .gate .timer) × (tinEvent h level .opened ≡ tinEvent g level .opened)
+  tin-moves : (level : Bool) → tinEvent h level .timer ≡ tinEvent g level .timer
   unfolding tinEvent
-  tin-moves level = rw (same .timer, same .tin) (refl, refl)
+  tin-moves level = rw (same .timer, same .tin)
 
-  tin-agrees : (level : Bool) → AgreeOpened (tinEvent g level) (tinEvent h level)
-  tin-agrees level = record {
-    gate = record { timer = tin-moves level .0; tin = tin-level h level ∙ sym (tin-level g level) };
-    opened = tin-moves level .1;
-  }
-
-  line-agrees : (n : ℕ) (level : Bool) (here : Bool) → eqb n tin ≡ here → AgreeOpened (lineEvent g n level) (lineEvent h n level)
+  line-agrees : (n : ℕ) (level : Bool) (here : Bool) → eqb n tin ≡ here → Agree (lineEvent g n level) (lineEvent h n level)
   unfolding lineEvent tinLevel
-  line-agrees n level true e = rw e (tin-agrees level)
+  line-agrees n level true e = rw e (record { timer = tin-moves level; tin = tin-level h level ∙ sym (tin-level g level) })
   line-agrees n level false e =
       rw e
       (record {
-        gate = record {
-          timer = same .timer;
-          tin = (rw e at (with-bit (h .c .outside) n tin level (omega arith))) ∙ same .tin ∙ sym (rw e at (with-bit (g .c .outside) n tin level (omega arith)));
-        };
-        opened = refl;
+        timer = same .timer;
+        tin = (rw e at (with-bit (h .c .outside) n tin level (omega arith))) ∙ same .tin ∙ sym (rw e at (with-bit (g .c .outside) n tin level (omega arith)));
       })
 
-  pin-agrees : (n : ℕ) (level : Bool) → AgreeOpened (gatePinned g n level) (gatePinned h n level)
+  pin-agrees : (n : ℕ) (level : Bool) → Agree (gatePinned g n level) (gatePinned h n level)
   unfolding gatePinned
   pin-agrees n level =
-      each (λ (x : Gated). AgreeOpened x (gatePinned h n level)) (gatePins g level) (quietly g) n
-      (λ m. rw (missed (gatePins h level) (quietly h) n m) (record { gate = same; opened = refl }))
+      each (λ (x : Gate). Agree x (gatePinned h n level)) (gatePins g level) g n
+      (λ m. rw (missed (gatePins h level) h n m) same)
       (λ a b. rw (le-leb PC0 n a, lt-ltb n (PC0 + lines) b) (line-agrees (n - PC0) level (eqb (n - PC0) tin) refl))
 
   -- an event leaves them so,
@@ -83,7 +67,7 @@ module _ (g h : Gate) (same : Agree g h) where
   then-agree (Read r) = same
   then-agree PortAcknowledge = same
   then-agree TimerAcknowledge = same
-  then-agree (Pin n level) = pin-agrees n level .gate
+  then-agree (Pin n level) = pin-agrees n level
   then-agree (Clocks n) = record { timer = rw (same .timer, same .tin); tin = same .tin }
   then-agree Reset = record { timer = rw (same .timer); tin = same .tin }
 
@@ -93,7 +77,7 @@ module _ (g h : Gate) (same : Agree g h) where
   open-alike k (Read r) = refl
   open-alike k PortAcknowledge = refl
   open-alike k TimerAcknowledge = refl
-  open-alike k (Pin n level) = ap (λ (b : Bool). mark b k []) (pin-agrees n level .opened)
+  open-alike k (Pin n level) = refl
   open-alike k (Clocks n) = rw (same .timer, same .tin)
   open-alike k Reset = refl
 

@@ -13,18 +13,16 @@ use Rattle.event.specs.declared.Event.{Event}
 use Rattle.event.specs.declared.Event.the-variants.{Write, Read, PortAcknowledge, TimerAcknowledge, Pin, Clocks, Reset}
 use Rattle.event.specs.Map.{TCR}
 use Rattle.port_c.specs.Pins.{tinLevel}
-use Rattle.timer.specs.Control.{tcrBits, sourceOf, rollsOf, runsOf, clockSteps}
+use Rattle.timer.specs.Control.{tcrBits, sourceOf, rollsOf, runsOf, byRises, clockSteps}
 use Rattle.timer.specs.Parts.{withZds}
-use Rattle.timer.specs.Registers.{controlledOf, clearedOf, preloadedOf, resetOf as resetTimer}
+use Rattle.timer.specs.Registers.{switchedOf, controlledOf, clearedOf, preloadedOf, resetOf as resetTimer}
 use Rattle.timer.specs.Running.{tinGoes}
 use Rattle.timer.specs.declared.Timer.{Timer}
-use Rattle.timer.specs.declared.Counted.{Counted}
-use Rattle.clocks.specs.Kept.{count-keeps, step-keeps, after-keeps}
+use Rattle.clocks.specs.Kept.{after-keeps}
 use Rattle.gate.specs.Fresh.{resetGate}
 use Rattle.gate.specs.Pins.{tinEvent, lineEvent, gatePinned}
 use Rattle.gate.specs.Registers.{writeTcr, writePreload, writeTsr, gateWritten}
 use Rattle.gate.specs.declared.Gate.{Gate}
-use Rattle.gate.specs.declared.Gated.{Gated}
 use Rattle.device.specs.Events.{effect}
 use Rattle.device.specs.declared.Device.{Device}
 use Rattle.laws.specs.Following.{followed, gate-follows}
@@ -80,19 +78,17 @@ contrary tcr level halted runs = false≢true (sym halted ∙ and-left (runsOf t
 
 -- after a write of TCR it holds what was written, its unused bit apart, and a level at PC2 does not change it
 pub controlled-tcr : (t : Timer) (v : ℕ) (tin : Bool) → controlledOf t v tin .tcr ≡ bitAnd v tcrBits
-unfolding controlledOf
+unfolding controlledOf switchedOf
 controlled-tcr t v tin = branch (λ (x : Timer). x .tcr ≡ bitAnd v tcrBits) (runsOf (bitAnd v tcrBits) tin) _ _ (λ _. refl) (λ _. refl)
 
-tin-keeps : (g : Gate) (level : Bool) → tinEvent g level .gate .timer .tcr ≡ g .timer .tcr
+tin-keeps : (g : Gate) (level : Bool) → tinEvent g level .timer .tcr ≡ g .timer .tcr
 unfolding tinEvent tinGoes
 tin-keeps g level =
     let t = g .timer in
-    let P : Counted → Type 0 = λ c. c .timer .tcr ≡ t .tcr in
+    let P : Timer → Type 0 = λ x. x .tcr ≡ t .tcr in
     branch P (not (runsOf (t .tcr) level)) _ _
-    (λ _. branch (λ (x : Timer). x .tcr ≡ t .tcr) (runsOf (t .tcr) (tinLevel (g .c))) _ _ (λ _. refl) (λ _. refl))
-    (λ _. branch P (tinLevel (g .c) || not level) _ _ (λ _. refl)
-    (λ _. branch P (eqb (sourceOf (t .tcr)) 2) _ _ (λ _. step-keeps t .tcr)
-    (λ _. branch P (eqb (sourceOf (t .tcr)) 3) _ _ (λ _. count-keeps t .0 .tcr) (λ _. refl))))
+    (λ _. branch P (runsOf (t .tcr) (tinLevel (g .c))) _ _ (λ _. refl) (λ _. refl))
+    (λ _. branch P (byRises (t .tcr) && (not (tinLevel (g .c)) && level)) _ _ (λ _. refl) (λ _. refl))
 
 -- a gate that runs on CLK with reload
 pub record Running (g : Gate) : Type 0 where
@@ -117,7 +113,7 @@ module _ (d : Device) where
       tcr-runs v (gated-runs (bitAnd v tcrBits) (tinLevel (d .gate .c)) (h .0 ∙ on) (h .2 ∙ source) high) (h .1 ∙ reload)
   kind-runs byte (rise on reload source) =
       let runs = gated-runs (d .gate .timer .tcr) true on source refl in
-      let still = tin-still (d .gate) true runs .0 in
+      let still = tin-still (d .gate) true runs in
       record { runs = rw (still, tin-level (d .gate) true) runs; reload = rw still reload }
 
   module _ (halted : Halted d) where
@@ -147,7 +143,7 @@ module _ (d : Device) where
         (λ _. same-rests (writeTsr g v) (branch (λ (t : Timer). t .tcr ≡ g .timer .tcr) (bitOf v 0) (withZds (g .timer) false) (g .timer) (λ _. refl) (λ _. refl)) refl)
 
     -- a level at PC2 that does
-    tin-kind : (level : Bool) → Running (tinEvent (d .gate) level .gate) → Start d (Pin tinPin level)
+    tin-kind : (level : Bool) → Running (tinEvent (d .gate) level) → Start d (Pin tinPin level)
     tin-kind level run =
         let t = d .gate .timer in
         let keeps = tin-keeps (d .gate) level in
@@ -156,9 +152,9 @@ module _ (d : Device) where
         (λ on source. absurd (contrary (t .tcr) (tinLevel (d .gate .c)) halted (clk-runs (t .tcr) (tinLevel (d .gate .c)) on source)))
         (λ on source high. subst (λ (x : Bool). Start d (Pin tinPin x)) (sym high) (rise on (rw keeps at (run .reload)) source))
 
-    pin-kind : (n : ℕ) (level : Bool) → Running (gatePinned (d .gate) n level .gate) → Start d (Pin n level)
+    pin-kind : (n : ℕ) (level : Bool) → Running (gatePinned (d .gate) n level) → Start d (Pin n level)
     pin-kind n level =
-        any-gate-pin (λ (x : Gated). Running (x .gate) → Start d (Pin n level)) (d .gate) n level
+        any-gate-pin (λ (x : Gate). Running x → Start d (Pin n level)) (d .gate) n level
         (λ x a. same-rests x (ap (λ (t : Timer). t .tcr) (a .timer)) (a .tin))
         (λ e run. subst (λ (x : ℕ). Start d (Pin x level)) (sym e) (tin-kind level run))
 

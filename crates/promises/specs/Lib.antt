@@ -14,4 +14,5 @@ pub mod Calls
 pub mod Again
 pub mod Lists
 pub mod TinIdles
+pub mod Rises
 pub mod Examples

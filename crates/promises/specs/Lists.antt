@@ -8,6 +8,7 @@ use native.Mathlib.Omega.{arith}
 use lib.ListN.{getD, length, drop, List·getD-append}
 use lib.Seq.{take-append-seam, getD-append-add}
 use Rattle.event.specs.declared.Event.{Event}
+use Rattle.clocks.specs.Numbers.{Rising}
 use Rattle.clocks.specs.Periods.{multiples}
 use Rattle.wire.specs.List.{events, parsed}
 use Rattle.wire.specs.Needs.{needsOf}
@@ -20,7 +21,7 @@ use Rattle.laws.specs.Stays.{list-stays}
 use Rattle.play.specs.Play.{Result, acceptance, playOf}
 use Rattle.survey.specs.Needed.{clocks-passed}
 use Rattle.promises.specs.Prefixes.{prefix}
-use Rattle.promises.specs.Openings.{Ordered, in-order}
+use Rattle.promises.specs.Openings.{rise-strictly}
 use Rattle.promises.specs.Undisturbed.{Undisturbed}
 use Rattle.promises.specs.Formula.{preloadOf, formula, how-many, opening-at}
 use Rattle.promises.specs.Kinds.{Starting}
@@ -137,6 +138,6 @@ module _ (s : List ℕ) (d : Device) (answers openings : List ℕ) (accepted : p
       ap (λ (x : Result). x .openings) plays ∙ append-assoc earlier (m ++ later) r ∙ ap (λ (x : List ℕ). earlier ++ x) (append-assoc m later r) in
       rw whole (getD-append-add earlier (m ++ (later ++ r)) (i - 1) 0 ∙ List·getD-append m (later ++ r) 0 (i - 1) within ∙ run-opening i one most)
 
-  -- What the list opens after the run carries no number below that of the run's last clock.
-  pub opens-after-run : Ordered atEnd (call .outcome .clocks) later
-  opens-after-run = rw plays (in-order zs (deviceAfter d (xs ++ e ∷ ys)) atEnd)
+  -- What the list opens after the run carries numbers past that of the run's last clock.
+  pub opens-after-run : Rising atEnd (call .outcome .clocks) later
+  opens-after-run = rw plays (rise-strictly zs (deviceAfter d (xs ++ e ∷ ys)) atEnd)

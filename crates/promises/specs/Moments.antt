@@ -29,8 +29,8 @@ singly (e ∷ es) = single e ++ singly es
 abbrev pub lowersToZero : Timer → Timer → Bool
 lowersToZero t u = not (t .phase .due) && eqb (t .count .0) 1 && eqb (u .count .0) 0
 
--- at each event where the counter is lowered from 1 to 0, the number of clocks passed by then: a clock's own number, and between
--- clocks the number passed so far
+-- at each event where the counter is lowered from 1 to 0, the number of clocks passed by then: the clock's own number, since no other
+-- event lowers it (02, R-2)
 unfoldable pub moments : Device → ℕ → List Event → List ℕ
 moments d k [] = []
 moments d k (e ∷ es) =

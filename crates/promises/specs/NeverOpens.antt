@@ -1,10 +1,9 @@
 -- A run with reload and preload 0 throughout (01, 'Timer').
 use Prim.Native.Nat.{ℕ, _+_, _-_, _≤_, _<_}
-use mathlib.Core.Bool.{Bool, false, not, _||_}
+use mathlib.Core.Bool.{Bool, true, false, not, _&&_}
 use mathlib.Core.List.{List, [], _∷_}
 use mathlib.Core.Path.{_≡_, refl, _∙_}
 use native.Mathlib.Omega.{arith}
-use borrow.Author.Tests.{eqb-false}
 use lib.Bits.{bitAnd}
 use lib.Dec.{eqb}
 use Rattle.bits.specs.Choice.{branch}
@@ -13,20 +12,17 @@ use Rattle.event.specs.Map.{TCR, CPRH, numberBytes}
 use Rattle.event.specs.declared.Event.{Event}
 use Rattle.event.specs.declared.Event.the-variants.{Write, Read, PortAcknowledge, TimerAcknowledge, Pin, Clocks, Reset}
 use Rattle.port_c.specs.Pins.{tinLevel}
-use Rattle.timer.specs.Control.{tcrBits, sourceOf, rollsOf, runsOf}
-use Rattle.timer.specs.Counting.{scaledOf, atZeroOf, countOf, stepOf, quiet}
-use Rattle.timer.specs.Parts.{withPrescaler, withTcr, withZds}
+use Rattle.timer.specs.Control.{tcrBits, rollsOf, runsOf, byRises}
+use Rattle.timer.specs.Parts.{withTcr, withZds, withRise}
 use Rattle.timer.specs.Running.{haltedOf, tinGoes}
-use Rattle.timer.specs.Registers.{withByte, controlledOf, clearedOf, preloadedOf, resetOf as resetTimer}
+use Rattle.timer.specs.Registers.{withByte, switchedOf, controlledOf, clearedOf, preloadedOf, resetOf as resetTimer}
 use Rattle.timer.specs.declared.Timer.{Timer}
-use Rattle.timer.specs.declared.Counted.{Counted}
 use Rattle.clocks.specs.Counts.{lowersOf}
 use Rattle.clocks.specs.NeverOpens.{Barren, due-barren, never-opens, still-barren}
 use Rattle.gate.specs.Fresh.{resetGate}
 use Rattle.gate.specs.Pins.{tinEvent}
 use Rattle.gate.specs.Registers.{writeTcr, writePreload, writeTsr, gateWritten}
 use Rattle.gate.specs.declared.Gate.{Gate}
-use Rattle.gate.specs.declared.Gated.{Gated}
 use Rattle.device.specs.Events.{effect, made}
 use Rattle.device.specs.declared.Device.{Device}
 use Rattle.laws.specs.Following.{followed, opensBy, gate-follows, gate-opens}
@@ -46,39 +42,18 @@ abbrev pub AllFruitless : List Event → Type 0
 AllFruitless [] = Unit {0}
 AllFruitless (e ∷ es) = Fruitless e × AllFruitless es
 
-abbrev StaysBarren : Counted → Type 0
-StaysBarren c = Barren (c .timer) × (c .opened ≡ false)
-
--- a count loads 0 and opens nothing
-barren-count : (t : Timer) → Barren t → StaysBarren (countOf t)
-unfolding countOf atZeroOf lowersOf
-barren-count t b =
-    branch StaysBarren (t .phase .due) _ _ (λ _. (record { reload = b .reload; preload = b .preload; zero = b .preload }, refl))
-    (λ no.
-    let none : t .count .0 ≡ 0 = rw no at (b .zero) in
-    branch StaysBarren (eqb (t .count .0) 0) _ _
-    (λ _. (record { reload = b .reload; preload = b .preload; zero = rw (b .reload) (b .preload) }, refl))
-    (λ some. absurd (eqb-false (t .count .0) 0 some none)))
-
--- so does a step through the prescaler
-barren-step : (t : Timer) → Barren t → StaysBarren (stepOf t)
-unfolding stepOf lowersOf
-barren-step t b =
-    let u = withPrescaler t (scaledOf (t .phase .prescaler) .prescaler) in
-    let c : Barren u = record { reload = b .reload; preload = b .preload; zero = b .zero } in
-    branch StaysBarren (scaledOf (t .phase .prescaler) .counts) (countOf u) (quiet u) (λ _. barren-count u c) (λ _. (c, refl))
-
-barren-tin : (t : Timer) (old new : Bool) → Barren t → StaysBarren (tinGoes t old new)
-unfolding tinGoes
+barren-tin : (t : Timer) (old new : Bool) → Barren t → Barren (tinGoes t old new)
+unfolding tinGoes lowersOf
 barren-tin t old new b =
-    branch StaysBarren (not (runsOf (t .tcr) new)) _ _
-    (λ _. branch (λ x. StaysBarren (quiet x)) (runsOf (t .tcr) old) (haltedOf t) t (λ _. (due-barren (haltedOf t) (b .reload) (b .preload) refl, refl)) (λ _. (b, refl)))
-    (λ _. branch StaysBarren (old || not new) _ _ (λ _. (b, refl))
-    (λ _. branch StaysBarren (eqb (sourceOf (t .tcr)) 2) _ _ (λ _. barren-step t b)
-    (λ _. branch StaysBarren (eqb (sourceOf (t .tcr)) 3) _ _ (λ _. barren-count t b) (λ _. (b, refl)))))
+    branch Barren (not (runsOf (t .tcr) new)) _ _
+    (λ _. branch Barren (runsOf (t .tcr) old) (haltedOf t) t (λ _. due-barren (haltedOf t) (b .reload) (b .preload) refl) (λ _. b))
+    (λ _.
+    branch Barren (byRises (t .tcr) && (not old && new)) (withRise t true) t
+    (λ _. record { reload = b .reload; preload = b .preload; zero = b .zero })
+    (λ _. b))
 
 barren-tcr : (t : Timer) (v : ℕ) (tin : Bool) → v < 256 → rollsOf v ≡ false → Barren t → Barren (controlledOf t v tin)
-unfolding controlledOf lowersOf
+unfolding controlledOf switchedOf lowersOf
 barren-tcr t v tin byte reload b =
     let r = tcr-holds v byte .1 ∙ reload in
     branch Barren (runsOf (bitAnd v tcrBits) tin) _ _
@@ -110,11 +85,7 @@ gate-barren (Read r) g k f b = (b, refl)
 gate-barren PortAcknowledge g k f b = (b, refl)
 gate-barren TimerAcknowledge g k f b = (b, refl)
 gate-barren (Pin n level) g k f b =
-    let s =
-    any-gate-pin (λ (x : Gated). Barren (x .gate .timer) × (x .opened ≡ false)) g n level
-    (λ x a. (rw (a .timer) b, refl))
-    (λ _. barren-tin (g .timer) (tinLevel (g .c)) level b) in
-    (s .0, rw (s .1))
+    (any-gate-pin (λ (x : Gate). Barren (x .timer)) g n level (λ x a. rw (a .timer) b) (λ _. barren-tin (g .timer) (tinLevel (g .c)) level b), refl)
 gate-barren (Clocks n) g k f b = (still-barren (tinLevel (g .c)) n (g .timer) b, never-opens (tinLevel (g .c)) n k (g .timer) b)
 gate-barren Reset g k f b = (due-barren (resetTimer (g .timer)) refl (b .preload) refl, refl)
 

@@ -1,8 +1,8 @@
 -- The openings of a list: every moment at which the timer opens, each once, in order, and no other.
-use Prim.Native.Nat.{ℕ, zero, suc, _+_, _≤_}
-use mathlib.Core.Bool.{Bool, true, false, not, _&&_, _||_}
+use Prim.Native.Nat.{ℕ, zero, suc, _+_}
+use mathlib.Core.Bool.{Bool, true, false, not, _&&_}
 use mathlib.Core.List.{List, [], _∷_, _++_, append-nil}
-use mathlib.Core.Path.{_≡_, refl, sym, ap, subst, _∙_}
+use mathlib.Core.Path.{_≡_, refl, ap, _∙_}
 use native.Mathlib.Nat.{add-zero}
 use native.Mathlib.Numerals.{add-one}
 use native.Mathlib.Omega.{arith}
@@ -15,21 +15,20 @@ use Rattle.bits.specs.Field.{bitOf}
 use Rattle.event.specs.declared.Event.{Event}
 use Rattle.event.specs.declared.Event.the-variants.{Write, Read, PortAcknowledge, TimerAcknowledge, Pin, Clocks, Reset}
 use Rattle.port_c.specs.Pins.{tinLevel}
-use Rattle.timer.specs.Control.{tcrBits, sourceOf, runsOf, clockSteps}
+use Rattle.timer.specs.Control.{tcrBits, sourceOf, runsOf, byRises, clockSteps}
 use Rattle.timer.specs.Counting.{scaledOf, countOf, stepOf, quiet}
-use Rattle.timer.specs.Parts.{withPrescaler, withZds}
-use Rattle.timer.specs.Running.{clockedTimer, tinGoes, mark}
-use Rattle.timer.specs.Registers.{controlledOf, clearedOf, preloadedOf, resetOf as resetTimer}
+use Rattle.timer.specs.Parts.{withPrescaler, withZds, withRise}
+use Rattle.timer.specs.Running.{tinGoes, risenOf, takesRise, clockedTimer, mark}
+use Rattle.timer.specs.Registers.{switchedOf, controlledOf, clearedOf, preloadedOf, resetOf as resetTimer}
 use Rattle.timer.specs.declared.Timer.{Timer}
 use Rattle.timer.specs.declared.Counted.{Counted}
-use Rattle.clocks.specs.Numbers.{Rising, openings-rise}
+use Rattle.clocks.specs.Numbers.{Rising, openings-rise, rising-append}
 use Rattle.clocks.specs.Spans.{mark-append}
 use Rattle.gate.specs.Clocking.{clockedGate}
 use Rattle.gate.specs.Fresh.{resetGate}
 use Rattle.gate.specs.Pins.{tinEvent}
 use Rattle.gate.specs.Registers.{writeTcr, writePreload, writeTsr}
 use Rattle.gate.specs.declared.Gate.{Gate}
-use Rattle.gate.specs.declared.Gated.{Gated}
 use Rattle.device.specs.Clocking.{clockedDevice, after, openings}
 use Rattle.device.specs.Fresh.{resetOf}
 use Rattle.device.specs.Pins.{pinOf}
@@ -73,22 +72,22 @@ step-opens t =
     let u = withPrescaler t (scaledOf (t .phase .prescaler) .prescaler) in
     branch (OpensRightly t) (scaledOf (t .phase .prescaler) .counts) (countOf u) (quiet u) (λ _. count-opens u) (λ _. kept u)
 
--- So does a clock, and a change of TIN's level.
+-- So does the step of a held rise,
+rise-opens : (t : Timer) → OpensRightly t (risenOf t)
+unfolding risenOf
+rise-opens t =
+    branch (OpensRightly t) (eqb (sourceOf (t .tcr)) 2) _ _ (λ _. step-opens (withRise t false)) (λ _. count-opens (withRise t false))
+
+-- and a clock.
 pub clock-opens : (tin : Bool) (t : Timer) → OpensRightly t (clockedTimer tin t)
 unfolding clockedTimer
-clock-opens tin t = branch (OpensRightly t) (clockSteps (t .tcr) tin) _ _ (λ _. step-opens t) (λ _. kept t)
-
-pub tin-opens : (t : Timer) (old new : Bool) → OpensRightly t (tinGoes t old new)
-unfolding tinGoes
-tin-opens t old new =
-    branch (OpensRightly t) (not (runsOf (t .tcr) new)) _ _ (λ _. branch (λ x. OpensRightly t (quiet x)) (runsOf (t .tcr) old) _ _ (λ _. kept t) (λ _. kept t))
-    (λ _. branch (OpensRightly t) (old || not new) _ _ (λ _. kept t)
-    (λ _. branch (OpensRightly t) (eqb (sourceOf (t .tcr)) 2) _ _ (λ _. step-opens t)
-    (λ _. branch (OpensRightly t) (eqb (sourceOf (t .tcr)) 3) _ _ (λ _. count-opens t) (λ _. kept t))))
+clock-opens tin t =
+    branch (OpensRightly t) (clockSteps (t .tcr) tin) _ _ (λ _. step-opens t)
+    (λ _. branch (OpensRightly t) (takesRise t tin) _ _ (λ _. rise-opens t) (λ _. kept t))
 
 -- an event that keeps the counter opens nothing
 write-keeps : (d : Device) (r v : ℕ) → false ≡ lowersToZero (d .gate .timer) (writeOf d r v .gate .timer)
-unfolding writeTcr writePreload writeTsr controlledOf preloadedOf clearedOf
+unfolding writeTcr writePreload writeTsr controlledOf switchedOf preloadedOf clearedOf
 write-keeps d r v =
     let t = d .gate .timer in
     let same = kept t in
@@ -103,12 +102,20 @@ write-keeps d r v =
 read-keeps : (d : Device) (r : ℕ) → false ≡ lowersToZero (d .gate .timer) (readOf d r .device .gate .timer)
 read-keeps d r = rw (read-gate d r) (kept (d .gate .timer))
 
-pin-opens : (d : Device) (n : ℕ) (level : Bool) → pinOf d n level .opened ≡ lowersToZero (d .gate .timer) (pinOf d n level .device .gate .timer)
+tin-keeps : (t : Timer) (old new : Bool) → false ≡ lowersToZero t (tinGoes t old new)
+unfolding tinGoes
+tin-keeps t old new =
+    let P : Timer → Type 0 = λ x. false ≡ lowersToZero t x in
+    branch P (not (runsOf (t .tcr) new)) _ _ (λ _. branch P (runsOf (t .tcr) old) _ _ (λ _. kept t) (λ _. kept t))
+    (λ _. branch P (byRises (t .tcr) && (not old && new)) _ _ (λ _. kept t) (λ _. kept t))
+
+pin-keeps : (d : Device) (n : ℕ) (level : Bool) → false ≡ lowersToZero (d .gate .timer) (pinOf d n level .gate .timer)
 unfolding tinEvent
-pin-opens d n level =
-    let P : Gated → Type 0 = λ x. x .opened ≡ lowersToZero (d .gate .timer) (x .gate .timer) in
-    subst P (sym (pin-gate d n level))
-    (any-gate-pin P (d .gate) n level (λ x a. rw (a .timer) (kept (d .gate .timer))) (λ _. tin-opens (d .gate .timer) (tinLevel (d .gate .c)) level))
+pin-keeps d n level =
+    rw (pin-gate d n level)
+    (any-gate-pin (λ (x : Gate). false ≡ lowersToZero (d .gate .timer) (x .timer)) (d .gate) n level
+    (λ x a. rw (a .timer) (kept (d .gate .timer)))
+    (λ _. tin-keeps (d .gate .timer) (tinLevel (d .gate .c)) level))
 
 -- n single clocks are n clocks
 one-and-more : (n : ℕ) (d : Device) (k : ℕ) → joined (effect d k (Clocks 1)) (effect (after 1 d) (k + 1) (Clocks n)) ≡ effect d k (Clocks (suc n))
@@ -163,7 +170,7 @@ single-moments (Write r v) d k = rw (← (write-keeps d r v))
 single-moments (Read r) d k = rw (← (read-keeps d r))
 single-moments PortAcknowledge d k = rw (← (kept (d .gate .timer)))
 single-moments TimerAcknowledge d k = rw (← (kept (d .gate .timer)))
-single-moments (Pin n level) d k = rw (← (pin-opens d n level))
+single-moments (Pin n level) d k = rw (← (pin-keeps d n level))
 single-moments (Clocks n) d k = clocks-moments n d k
 single-moments Reset d k = rw (← (kept (d .gate .timer)))
 
@@ -184,33 +191,28 @@ openings-are-moments (e ∷ es) d k =
       openings-are-moments es (effect d k e .device) (effect d k e .clocks),
     )
 
--- the numbers do not fall, the first is k or more, and none is past m
-abbrev pub Ordered : ℕ → ℕ → List ℕ → Type 0
-Ordered k m [] = Unit {0}
-Ordered k m (x ∷ l) = (k ≤ x) × (x ≤ m) × Ordered x m l
+-- of n clocks after clock k those that open are numbered past k, up to k + n, and rise
+clocks-rise : (n : ℕ) (d : Device) (k : ℕ) → Rising k (k + n) (openings n k d)
+clocks-rise n d k = rw (opens n k d) (openings-rise (tinLevel (d .gate .c)) n k (d .gate .timer))
 
-from-less : (j k m : ℕ) (l : List ℕ) → j ≤ k → Ordered k m l → Ordered j m l
-from-less j k m [] h o = tt
-from-less j k m (x ∷ l) h o = (omega (arith, o .0), o .1, o .2)
+-- an event's numbers rise: it is clocks alone that open
+event-rises : (e : Event) (d : Device) (k : ℕ) → Rising k (effect d k e .clocks) (effect d k e .openings)
+unfolding effect
+event-rises (Write r v) d k = tt
+event-rises (Read r) d k = tt
+event-rises PortAcknowledge d k = tt
+event-rises TimerAcknowledge d k = tt
+event-rises (Pin n level) d k = tt
+event-rises (Clocks n) d k = clocks-rise n d k
+event-rises Reset d k = tt
 
-mark-ordered : (opened : Bool) (j k m : ℕ) (l : List ℕ) → j ≤ k → k ≤ m → Ordered k m l → Ordered j m (mark opened k l)
-mark-ordered true j k m l h i o = (h, i, o)
-mark-ordered false j k m l h i o = from-less j k m l h o
-
-moments-ordered : (es : List Event) (d : Device) (k : ℕ) → Ordered k (made d k es .clocks) (moments d k es)
-unfolding moments made
-moments-ordered [] d k = tt
-moments-ordered (e ∷ es) d k =
+-- 02, R-2: 'an opening now falls only on a clock, so numbers rise strictly'. The first is past the clocks that had passed before, and
+-- none is past those that have passed in the end.
+pub rise-strictly : (es : List Event) (d : Device) (k : ℕ) → Rising k (made d k es .clocks) (made d k es .openings)
+unfolding made
+rise-strictly [] d k = tt
+rise-strictly (e ∷ es) d k =
     let c = effect d k e .clocks in
     let f = effect d k e .device in
-    mark-ordered (lowersToZero (d .gate .timer) (f .gate .timer)) k c (made f c es .clocks) (moments f c es)
-    (omega (arith, event-clocks d k e)) (omega (arith, clocks-passed f c es)) (moments-ordered es f c)
-
--- They stand in order, and none is past the clocks that have passed.
-pub in-order : (es : List Event) (d : Device) (k : ℕ) → Ordered k (made d k es .clocks) (made d k es .openings)
-in-order es d k = rw (openings-are-moments es d k, ← (single-clocks es d k)) (moments-ordered (singly es) d k)
-
--- Within a clocks event they rise: no clock opens twice.
-pub clocks-rise : (n : ℕ) (d : Device) (k : ℕ) → Rising k (k + n) (effect d k (Clocks n) .openings)
-unfolding effect
-clocks-rise n d k = rw (opens n k d) (openings-rise (tinLevel (d .gate .c)) n k (d .gate .timer))
+    rising-append k c (made f c es .clocks) (effect d k e .openings) (made f c es .openings)
+    (omega (arith, event-clocks d k e)) (omega (arith, clocks-passed f c es)) (event-rises e d k) (rise-strictly es f c)

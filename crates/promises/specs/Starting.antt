@@ -12,12 +12,12 @@ use Rattle.event.specs.Map.{TCR}
 use Rattle.port_c.specs.Pins.{tinLevel}
 use Rattle.timer.specs.Control.{tcrBits, sourceOf, runsOf, clockSteps}
 use Rattle.timer.specs.Counting.{full}
-use Rattle.timer.specs.Registers.{controlledOf}
+use Rattle.timer.specs.Registers.{switchedOf, controlledOf}
 use Rattle.timer.specs.Validity.{restsOf}
 use Rattle.timer.specs.declared.Timer.{Timer}
 use Rattle.gate.specs.Pins.{lineEvent, gatePinned}
 use Rattle.gate.specs.Registers.{writeTcr, gateWritten}
-use Rattle.gate.specs.declared.Gated.{Gated}
+use Rattle.gate.specs.declared.Gate.{Gate}
 use Rattle.device.specs.Registers.{writeOf}
 use Rattle.device.specs.Events.{Made, silently, effect}
 use Rattle.device.specs.Validity.{validOf}
@@ -40,32 +40,37 @@ rests d valid halted =
     let p = d .gate .timer .phase in
     let r = either (runsOf (d .gate .timer .tcr) (tinLevel (d .gate .c))) (restsOf p) (valid-in d valid .gate .halts) halted in
     let turned = eqb (p .prescaler .0) full in
-    let s : (turned && not (p .zds) && p .square) ≡ true = and-left _ (p .due) r in
+    let d : (turned && not (p .zds) && p .square && p .due) ≡ true = and-left _ (not (p .rise)) r in
+    let s : (turned && not (p .zds) && p .square) ≡ true = and-left _ (p .due) d in
     let z : (turned && not (p .zds)) ≡ true = and-left _ (p .square) s in
-    record { full = eqb-true (p .prescaler .0) full (and-left turned (not (p .zds)) z); due = and-right (turned && not (p .zds) && p .square) (p .due) r }
+    record { full = eqb-true (p .prescaler .0) full (and-left turned (not (p .zds)) z); due = and-right (turned && not (p .zds) && p .square) (p .due) d }
 
 -- an event that moves nothing of a run and shows nothing
 record Quiet (d : Device) (k : ℕ) (m : Made) : Type 0 where
-  phase : m .device .gate .timer .phase ≡ d .gate .timer .phase
+  prescaler : m .device .gate .timer .phase .prescaler ≡ d .gate .timer .phase .prescaler
+  due : m .device .gate .timer .phase .due ≡ d .gate .timer .phase .due
   preload : preloadOf (m .device) ≡ preloadOf d
   shows : m ≡ silently (m .device) k
 
 module _ (d : Device) (k : ℕ) where
   tcr-quiet : (v : ℕ) → Running (followed (d .gate) (Write TCR v)) → Quiet d k (effect d k (Write TCR v))
-  unfolding effect writeOf gateWritten writeTcr controlledOf clockSteps
+  unfolding effect writeOf gateWritten writeTcr controlledOf switchedOf clockSteps
   tcr-quiet v run =
       let tcr = bitAnd v tcrBits in
       let level = tinLevel (d .gate .c) in
       let steps : clockSteps tcr level ≡ true = rw (controlled-tcr (d .gate .timer) v level) at (run .runs) in
-      rw (and-left (runsOf tcr level) (ltb (sourceOf tcr) 2) steps) (record { phase = refl; preload = refl; shows = refl })
+      rw (and-left (runsOf tcr level) (ltb (sourceOf tcr) 2) steps) (record { prescaler = refl; due = refl; preload = refl; shows = refl })
 
   rise-quiet : clockSteps (d .gate .timer .tcr) true ≡ true → Quiet d k (effect d k (Pin tinPin true))
   unfolding effect gatePinned lineEvent
   rise-quiet runs =
-      let still = tin-still (d .gate) true runs in
-      let timer = ap (λ (x : Gated). x .gate .timer) (pin-gate d tinPin true) ∙ still .0 in
-      let opened = ap (λ (x : Gated). x .opened) (pin-gate d tinPin true) ∙ still .1 in
-      record { phase = ap (λ (t : Timer). t .phase) timer; preload = ap (λ (t : Timer). t .preload .0) timer; shows = rw opened }
+      let timer = ap (λ (x : Gate). x .timer) (pin-gate d tinPin true) ∙ tin-still (d .gate) true runs in
+      record {
+        prescaler = ap (λ (t : Timer). t .phase .prescaler) timer;
+        due = ap (λ (t : Timer). t .phase .due) timer;
+        preload = ap (λ (t : Timer). t .preload .0) timer;
+        shows = refl;
+      }
 
   kind-quiet : {e : Event} → Start d e → Running (followed (d .gate) e) → Quiet d k (effect d k e)
   kind-quiet (clk v on reload source) run = tcr-quiet v run
@@ -85,7 +90,7 @@ start d k e byte valid s =
     let q = kind-quiet d k (three-kinds d k e byte .0 s .1) (gate-runs d k e s) in
     let r = rests d valid (s .halted) in
     record {
-      starts = record { runs = s .runs; reload = s .reload; full = rw (q .phase) (r .full); due = rw (q .phase) (r .due) };
+      starts = record { runs = s .runs; reload = s .reload; full = rw (q .prescaler) (r .full); due = rw (q .due) (r .due) };
       preload = q .preload;
       shows = q .shows;
     }

@@ -21,23 +21,25 @@ use Rattle.timer.specs.Registers.{freshTimer}
 use Rattle.timer.specs.Running.{tinGoes}
 use Rattle.wire.specs.List.{events, parsed}
 use Rattle.gate.specs.Fresh.{freshGate}
-use Rattle.gate.specs.Pins.{withLine, tinEvent, lineEvent}
+use Rattle.gate.specs.Pins.{withLine, tinEvent, lineEvent, gatePinned}
 use Rattle.parallel.specs.Fresh.{freshParallel}
+use Rattle.parallel.specs.Pins.{parallelPinned}
 use Rattle.device.specs.Events.{Made, silently, joined, effect, made}
 use Rattle.device.specs.Fresh.{freshDevice}
 use Rattle.device.specs.Parts.{withGate}
 use Rattle.device.specs.Pinned.{pinned}
-use Rattle.device.specs.Pins.{gated, pinOf}
+use Rattle.device.specs.Pins.{pinOf}
 use Rattle.device.specs.Validity.{validOf}
 use Rattle.device.specs.declared.Device.{Device}
 use Rattle.laws.specs.Bits.{with-bit}
 use Rattle.laws.specs.Fresh.{outsideOf}
 use Rattle.laws.specs.Stays.{fresh-valid, list-stays}
 use Rattle.laws.specs.Touching.{tinPin}
+use Rattle.laws.specs.Untouched.{no-input}
 use Rattle.play.specs.Play.{Result, refusal, settled, playOf}
 use Rattle.survey.specs.Needed.{clocks-passed}
 use Rattle.promises.specs.Prefixes.{prefix}
-use Rattle.promises.specs.Unseen.{OnClk, NoDataC, Every, Unseen, tin-quiet, with-byte, opens-unseen, leaves-unseen, answers-unseen}
+use Rattle.promises.specs.Unseen.{OnClk, NoDataC, Every, Unseen, with-byte, opens-unseen, leaves-unseen, answers-unseen}
 
 -- the fresh device as 01 has it, with PC2's outside level high
 abbrev pub allHigh : Device
@@ -50,7 +52,7 @@ all-high n l = any-below 28 (outsideOf allHigh) refl n l
 
 -- PC2 high makes a fresh device that one, and nothing is seen of it: the two are equal after that event.
 pub high-makes : (k : ℕ) → effect freshDevice k (Pin tinPin true) ≡ silently allHigh k
-unfolding effect pinOf pinned gated lineEvent tinEvent tinGoes runsOf bitOf freshDevice freshGate freshTimer freshC tinLevel
+unfolding effect pinOf parallelPinned gatePinned lineEvent tinEvent tinGoes runsOf bitOf freshDevice freshGate freshTimer freshC tinLevel
 high-makes k = refl
 
 -- So a list that is put behind PC2 high opens, answers and leaves on a fresh device what it did on that one, whatever it gates by.
@@ -95,12 +97,12 @@ same-bits x y l m same =
 
 -- Two devices that differ in PC2's level at most are equal once it is stated, and nothing is seen of that.
 pub stated-makes : (c d : Device) (k : ℕ) (level : Bool) → Unseen c d → effect c k (Pin tinPin level) ≡ effect d k (Pin tinPin level)
-unfolding effect pinOf pinned gated lineEvent tinEvent
+unfolding effect pinOf parallelPinned gatePinned lineEvent tinEvent
 stated-makes c d k level same =
     let b = same .gate in
     rw (
-      tin-quiet (d .gate .timer) (tinLevel (d .gate .c)) level (b .source),
-      tin-quiet (c .gate .timer) (tinLevel (c .gate .c)) level (rw (b .timer) (b .source)),
+      no-input (d .gate .timer) (tinLevel (d .gate .c)) level (b .source),
+      no-input (c .gate .timer) (tinLevel (c .gate .c)) level (rw (b .timer) (b .source)),
       same .parallel,
       b .timer,
       b .direction,

@@ -2,10 +2,10 @@
 use Prim.Native.Nat.{ℕ, zero, suc, _+_, _≤_, _<_}
 use mathlib.Core.Bool.{Bool, true, false, not, _&&_, _||_, false≢true}
 use mathlib.Core.List.{List, [], _∷_, _++_}
-use mathlib.Core.Path.{_≡_, refl, sym, ap, subst, _∙_}
+use mathlib.Core.Path.{_≡_, refl, sym, ap, _∙_}
 use native.Mathlib.Nat.{zero-add}
 use native.Mathlib.Omega.{arith}
-use borrow.Author.Tests.{ne-eqb, ltb-true}
+use borrow.Author.Tests.{ne-eqb, le-ltb, ltb-true}
 use lib.Dec.{eqb, ltb}
 use Rattle.bits.specs.Choice.{branch, and-left, and-right}
 use Rattle.bits.specs.Field.{bitOf}
@@ -13,8 +13,7 @@ use Rattle.event.specs.Map.{TCR, CPRH, numberBytes}
 use Rattle.event.specs.declared.Event.{Event}
 use Rattle.event.specs.declared.Event.the-variants.{Write, Read, PortAcknowledge, TimerAcknowledge, Pin, Clocks, Reset}
 use Rattle.port_c.specs.Pins.{tinLevel}
-use Rattle.timer.specs.Control.{sourceOf, runsOf, clockSteps}
-use Rattle.timer.specs.Counting.{quiet}
+use Rattle.timer.specs.Control.{sourceOf, runsOf, byRises, clockSteps}
 use Rattle.timer.specs.Running.{tinGoes, after, openings, clockedTimer, mark}
 use Rattle.timer.specs.Parts.{withTivr, withZds}
 use Rattle.timer.specs.Registers.{clearedOf}
@@ -28,7 +27,6 @@ use Rattle.gate.specs.Parts.{withTimer}
 use Rattle.gate.specs.Pins.{tinEvent, gatePinned}
 use Rattle.gate.specs.Registers.{writeTsr, gateWritten}
 use Rattle.gate.specs.declared.Gate.{Gate}
-use Rattle.gate.specs.declared.Gated.{Gated}
 use Rattle.device.specs.Registers.{readOf, writeOf}
 use Rattle.device.specs.Pins.{pinOf}
 use Rattle.device.specs.Clocking as device
@@ -94,17 +92,16 @@ module _ (level : Bool) where
       ∙ ap (λ (c : Counted). mark (c .opened) (suc k) (openings true n (suc k) (c .timer))) (same-clock t h)
 
 -- a change of TIN that leaves a run on CLK running does nothing to it
-pub tin-quiet : (t : Timer) (old new : Bool) → clockSteps (t .tcr) new ≡ true → tinGoes t old new ≡ quiet t
-unfolding tinGoes clockSteps
+pub tin-quiet : (t : Timer) (old new : Bool) → clockSteps (t .tcr) new ≡ true → tinGoes t old new ≡ t
+unfolding tinGoes clockSteps byRises
 tin-quiet t old new h =
     let runs = and-left (runsOf (t .tcr) new) (ltb (sourceOf (t .tcr)) 2) h in
     let few = ltb-true (sourceOf (t .tcr)) 2 (and-right (runsOf (t .tcr) new) (ltb (sourceOf (t .tcr)) 2) h) in
-    simp (runs, ne-eqb (sourceOf (t .tcr)) 2 (λ e. omega arith), ne-eqb (sourceOf (t .tcr)) 3 (λ e. omega arith))
-    (branch (λ (c : Counted). c ≡ quiet t) (old || not new) _ _ (λ _. refl) (λ _. refl))
+    simp (runs, le-ltb 1 (sourceOf (t .tcr)) (omega arith))
 
-pub tin-still : (g : Gate) (level : Bool) → clockSteps (g .timer .tcr) level ≡ true → (tinEvent g level .gate .timer ≡ g .timer) × (tinEvent g level .opened ≡ false)
+pub tin-still : (g : Gate) (level : Bool) → clockSteps (g .timer .tcr) level ≡ true → tinEvent g level .timer ≡ g .timer
 unfolding tinEvent
-tin-still g level h = rw (tin-quiet (g .timer) (tinLevel (g .c)) level h) (refl, refl)
+tin-still g level h = tin-quiet (g .timer) (tinLevel (g .c)) level h
 
 -- the gate's timer counts as t does, and runs on CLK with TIN at its level
 pub record Follows (t : Timer) (g : Gate) : Type 0 where
@@ -129,17 +126,13 @@ module _ (t : Timer) (g : Gate) (f : Follows t g) where
       (λ low high. absurd (u .1 low high))
       (λ _. branch (λ (x : Timer). Follows t (withTimer g x)) (bitOf v 0) (withZds (g .timer) false) (g .timer) (λ _. shown (g .timer .tivr) false) (λ _. f))
 
-  abbrev FollowsQuietly : Gated → Type 0
-  FollowsQuietly x = Follows t (x .gate) × (x .opened ≡ false)
-
-  pin-follows : (n : ℕ) (level : Bool) → Undisturbing (t .tcr) (Pin n level) → FollowsQuietly (gatePinned g n level)
+  pin-follows : (n : ℕ) (level : Bool) → Undisturbing (t .tcr) (Pin n level) → Follows t (gatePinned g n level)
   pin-follows n level u =
-      any-gate-pin FollowsQuietly g n level
-      (λ x a. (same-follows x a, refl))
+      any-gate-pin (Follows t) g n level same-follows
       (λ e.
       let runs = level-runs (g .timer .tcr) (tinLevel (g .c)) level (f .runs) (λ s. u (ap (λ (x : Timer). sourceOf (x .tcr)) (sym (f .alike)) ∙ s) e) in
       let still = tin-still g level runs in
-      (record { alike = rw (still .0) (f .alike); runs = rw (tin-level g level, still .0) runs }, still .1))
+      record { alike = rw still (f .alike); runs = rw (tin-level g level, still) runs })
 
   clocks-follow : (n : ℕ) → Follows (after true n t) (gateAfter n g)
   clocks-follow n =
@@ -157,8 +150,7 @@ clocks-alone (Read r ∷ es) d k t f u = rw zero-add (clocks-alone es (readOf d 
 clocks-alone (PortAcknowledge ∷ es) d k t f u = rw zero-add (clocks-alone es d k t f (u .1))
 clocks-alone (TimerAcknowledge ∷ es) d k t f u = rw zero-add (clocks-alone es d k t f (u .1))
 clocks-alone (Pin n level ∷ es) d k t f u =
-    let p = subst (FollowsQuietly t (d .gate) f) (sym (pin-gate d n level)) (pin-follows t (d .gate) f n level (u .0)) in
-    rw (zero-add, p .1) (clocks-alone es (pinOf d n level .device) k t (p .0) (u .1))
+    rw zero-add (clocks-alone es (pinOf d n level) k t (rw (pin-gate d n level) (pin-follows t (d .gate) f n level (u .0))) (u .1))
 clocks-alone (Clocks n ∷ es) d k t f u =
     let g = d .gate in
     rw (

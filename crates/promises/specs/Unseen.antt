@@ -1,7 +1,7 @@
 -- PC2's outside level is seen by TIN, with a source other than 00, and by a read of data C, and by nothing else that opens the gate or
 -- answers (01, 'Timer', 'Registers').
 use Prim.Native.Nat.{ℕ, zero, suc, _+_, _-_, _/_, _%_, _^_, _<_}
-use mathlib.Core.Bool.{Bool, true, false, not, _||_, false≢true}
+use mathlib.Core.Bool.{Bool, true, false}
 use mathlib.Core.List.{List, [], _∷_, _++_}
 use mathlib.Core.Path.{_≡_, refl, sym, ap, ap₂, subst, _∙_}
 use borrow.Author.Tests.{eqb-true, ne-eqb, le-leb, lt-ltb, ltb-true}
@@ -18,25 +18,23 @@ use Rattle.event.specs.declared.Event.the-variants.{Write, Read, PortAcknowledg
 use Rattle.port_c.specs.Fresh.{resetC}
 use Rattle.port_c.specs.Pins.{tin, tinLevel}
 use Rattle.timer.specs.Control.{tcrBits, sourceOf, runsOf, clockSteps}
-use Rattle.timer.specs.Counting.{quiet}
 use Rattle.timer.specs.Parts.{withZds}
 use Rattle.timer.specs.Registers.{controlledOf, preloadedOf, clearedOf, resetOf as resetTimer}
-use Rattle.timer.specs.Running.{haltedOf, tinGoes, clockedTimer, after, openings, mark}
+use Rattle.timer.specs.Running.{takesRise, clockedTimer, after, openings, mark}
 use Rattle.timer.specs.declared.Timer.{Timer}
-use Rattle.timer.specs.declared.Counted.{Counted}
 use Rattle.clocks.specs.Kept.{after-keeps}
 use Rattle.gate.specs.Fresh.{resetGate}
 use Rattle.gate.specs.Parts.{withTimer}
-use Rattle.gate.specs.Pins.{quietly, withLine, tinEvent, lineEvent, gatePins, gatePinned}
+use Rattle.gate.specs.Pins.{withLine, tinEvent, lineEvent, gatePins, gatePinned}
 use Rattle.gate.specs.Registers.{writeTcr, writePreload, writeTsr, gateWrites, gateWritten}
 use Rattle.gate.specs.declared.Gate.{Gate}
-use Rattle.gate.specs.declared.Gated.{Gated}
 use Rattle.device.specs.Registers.{readOf}
 use Rattle.device.specs.Events.{effect, made}
 use Rattle.device.specs.declared.Device.{Device}
 use Rattle.laws.specs.Bits.{with-bit}
 use Rattle.laws.specs.Following.{followed, opensBy, gate-follows, gate-opens, parallel-follows}
 use Rattle.laws.specs.Touching.{gate-preload}
+use Rattle.laws.specs.Untouched.{no-input}
 use Rattle.survey.specs.Needed.{event-clocks}
 use Rattle.promises.specs.Kinds.{controlled-tcr}
 
@@ -66,7 +64,7 @@ Every P [] = Unit {0}
 Every P (e ∷ es) = P e × Every P es
 
 -- TCR's source is as it was written
-source-holds : (v : ℕ) → sourceOf (bitAnd v tcrBits) ≡ sourceOf v
+pub source-holds : (v : ℕ) → sourceOf (bitAnd v tcrBits) ≡ sourceOf v
 unfolding sourceOf fieldOf
 source-holds v =
     ap (λ (x : ℕ). x % 4) (and-shr v tcrBits 1) ∙ and-mod (v / 2) 123 2
@@ -77,20 +75,9 @@ blind : (tcr : ℕ) (a b : Bool) → sourceOf tcr ≡ 0 → runsOf tcr a ≡ run
 unfolding runsOf
 blind tcr a b clk = rw clk refl
 
--- a level at TIN does nothing to it,
-pub tin-quiet : (t : Timer) (old new : Bool) → sourceOf (t .tcr) ≡ 0 → tinGoes t old new ≡ quiet t
-unfolding tinGoes
-tin-quiet t old new clk =
-    let P : Counted → Type 0 = λ c. c ≡ quiet t in
-    branch P (not (runsOf (t .tcr) new)) _ _
-    (λ off. branch (λ (x : Timer). quiet x ≡ quiet t) (runsOf (t .tcr) old) (haltedOf t) t
-    (λ on. absurd (false≢true (sym (ap not (blind (t .tcr) new old clk ∙ on)) ∙ off)))
-    (λ _. refl))
-    (λ _. branch P (old || not new) _ _ (λ _. refl) (λ _. rw clk refl))
-
--- and a clock does the same
+-- a level at TIN does nothing to it (`laws/specs/Untouched` `no-input`), and a clock does the same
 clock-blind : (t : Timer) (a b : Bool) → sourceOf (t .tcr) ≡ 0 → clockedTimer a t ≡ clockedTimer b t
-unfolding clockedTimer clockSteps
+unfolding clockedTimer clockSteps takesRise
 clock-blind t a b clk = rw (blind (t .tcr) a b clk)
 
 clock-source : (t : Timer) (a : Bool) → sourceOf (t .tcr) ≡ 0 → sourceOf (clockedTimer a t .timer .tcr) ≡ 0
@@ -125,11 +112,6 @@ pub record ButTin (g h : Gate) : Type 0 where
   pub latch : h .c .latch ≡ g .c .latch
   pub levels : (n : ℕ) → n < lines → (n ≡ tin → ⊥) → bitOf (h .c .outside) n ≡ bitOf (g .c .outside) n
   pub bytes : (g .c .outside < 256) × (h .c .outside < 256)
-
--- they differ so still, and have opened alike
-pub record Moved (x y : Gated) : Type 0 where
-  pub gate : ButTin (x .gate) (y .gate)
-  pub opened : y .opened ≡ x .opened
 
 module _ (g h : Gate) (same : ButTin g h) where
   -- with timers that are equal, and have source 00
@@ -170,22 +152,22 @@ module _ (g h : Gate) (same : ButTin g h) where
     bytes = (with-byte (g .c .outside) n level (same .bytes .0), with-byte (h .c .outside) n level (same .bytes .1));
   }
 
-  tin-moved : (level : Bool) → Moved (tinEvent g level) (tinEvent h level)
+  tin-moved : (level : Bool) → ButTin (tinEvent g level) (tinEvent h level)
   unfolding tinEvent
   tin-moved level =
-      rw (tin-quiet (g .timer) (tinLevel (g .c)) level (same .source), tin-quiet (h .timer) (tinLevel (h .c)) level (rw (same .timer) (same .source)))
-      (record { gate = lined tin level; opened = refl })
+      rw (no-input (g .timer) (tinLevel (g .c)) level (same .source), no-input (h .timer) (tinLevel (h .c)) level (rw (same .timer) (same .source)))
+      (lined tin level)
 
-  line-moved : (n : ℕ) (level : Bool) (here : Bool) → eqb n tin ≡ here → Moved (lineEvent g n level) (lineEvent h n level)
+  line-moved : (n : ℕ) (level : Bool) (here : Bool) → eqb n tin ≡ here → ButTin (lineEvent g n level) (lineEvent h n level)
   unfolding lineEvent
   line-moved n level true e = rw e (tin-moved level)
-  line-moved n level false e = rw e (record { gate = lined n level; opened = refl })
+  line-moved n level false e = rw e (lined n level)
 
-  pin-moved : (n : ℕ) (level : Bool) → Moved (gatePinned g n level) (gatePinned h n level)
+  pin-moved : (n : ℕ) (level : Bool) → ButTin (gatePinned g n level) (gatePinned h n level)
   unfolding gatePinned
   pin-moved n level =
-      each (λ (x : Gated). Moved x (gatePinned h n level)) (gatePins g level) (quietly g) n
-      (λ m. rw (missed (gatePins h level) (quietly h) n m) (record { gate = same; opened = refl }))
+      each (λ (x : Gate). ButTin x (gatePinned h n level)) (gatePins g level) g n
+      (λ m. rw (missed (gatePins h level) h n m) same)
       (λ a b. rw (le-leb PC0 n a, lt-ltb n (PC0 + lines) b) (line-moved (n - PC0) level (eqb (n - PC0) tin) refl))
 
   -- an event with source 00 leaves them so,
@@ -195,7 +177,7 @@ module _ (g h : Gate) (same : ButTin g h) where
   then-but-tin (Read r) clk = same
   then-but-tin PortAcknowledge clk = same
   then-but-tin TimerAcknowledge clk = same
-  then-but-tin (Pin n level) clk = pin-moved n level .gate
+  then-but-tin (Pin n level) clk = pin-moved n level
   then-but-tin (Clocks n) clk =
       timed _ _ (rw (same .timer) (after-blind n (g .timer) (tinLevel (h .c)) (tinLevel (g .c)) (same .source)))
       (ap sourceOf (after-keeps (tinLevel (g .c)) n (g .timer) .tcr) ∙ same .source)
@@ -207,7 +189,7 @@ module _ (g h : Gate) (same : ButTin g h) where
   open-alike k (Read r) = refl
   open-alike k PortAcknowledge = refl
   open-alike k TimerAcknowledge = refl
-  open-alike k (Pin n level) = ap (λ (b : Bool). mark b k []) (pin-moved n level .opened)
+  open-alike k (Pin n level) = refl
   open-alike k (Clocks n) = rw (same .timer) (opens-blind n k (g .timer) (tinLevel (h .c)) (tinLevel (g .c)) (same .source))
   open-alike k Reset = refl
 

@@ -62,11 +62,6 @@ fn show_port(d: Device, clocks: u64) {
     end_line();
 }
 
-fn pin(d: Device, number: u8, level: bool) -> Device {
-    let stepped = d.pin(number, level);
-    stepped.device
-}
-
 // A read, with its byte printed.
 fn read(d: Device, register: u8) -> Device {
     let got = d.read(register);
@@ -81,19 +76,14 @@ fn read(d: Device, register: u8) -> Device {
 fn levels(device: Device, v: u8) -> Device {
     let mut d = device;
     for i in 0..8 {
-        d = pin(d, i, bits::bit(v, i));
+        d = d.pin(i, bits::bit(v, i));
     }
     d
 }
 
-// So many rises of a pin.
-fn rises(device: Device, number: u8, n: u8) -> Device {
-    let mut d = device;
-    for _ in 0..n {
-        d = pin(d, number, false);
-        d = pin(d, number, true);
-    }
-    d
+// A rise of a pin.
+fn rise(d: Device, number: u8) -> Device {
+    d.pin(number, false).pin(number, true)
 }
 
 // One clock, with a line where it opens the gate.
@@ -115,11 +105,21 @@ fn clocks(device: Device, before: u64, after: u64) -> Device {
     d
 }
 
+// The same, with a rise of a pin before each.
+fn rises(device: Device, number: u8, before: u64, after: u64) -> Device {
+    let mut d = device;
+    for passed in before..after {
+        d = clock(rise(d, number), passed + 1);
+    }
+    d
+}
+
 // How many clocks the part has had after a step.
 fn clocks_after(before: u64, what: u8, x: u8, y: u8) -> u64 {
     match what {
         b'=' => 0,
         b'C' => before % 4294967296 + x as u64 * 256 + y as u64,
+        b'U' => before % 4294967296 + y as u64,
         _ => before,
     }
 }
@@ -146,10 +146,10 @@ fn step(d: Device, before: u64, after: u64, what: u8, x: u8, y: u8) -> Device {
         }
         b'W' => d.write(x, y),
         b'R' => read(d, x),
-        b'P' => pin(d, x, y == 1),
-        b'S' => rises(d, 24, 1),
+        b'P' => d.pin(x, y == 1),
+        b'S' => rise(d, 24),
         b'L' => levels(d, x),
-        b'U' => rises(d, x, y),
+        b'U' => rises(d, x, before, after),
         b'C' => clocks(d, before, after),
         b'T' => {
             show_timer(d, before);

@@ -6,13 +6,11 @@ use mathlib.Core.List.{List, [], _∷_, _++_}
 use native.Mathlib.Nat.{add-zero, zero-add}
 use native.Mathlib.Omega.{arith}
 use lib.ListN.{length, length-append}
-use Rattle.bits.specs.Choice.{if_then_else_}
 use Rattle.event.specs.declared.Event.{Event}
 use Rattle.event.specs.declared.Event.the-variants.{Write, Read, PortAcknowledge, TimerAcknowledge, Pin, Clocks, Reset}
 use Rattle.port_c.specs.Pins.{tinLevel}
 use Rattle.timer.specs.Running.{clockedTimer, openings as timerOpenings, mark}
 use Rattle.timer.specs.declared.Timer.{Timer}
-use Rattle.gate.specs.Pins.{gatePinned}
 use Rattle.gate.specs.declared.Gate.{Gate}
 use Rattle.wire.specs.List.{Parsed, events, refused, prepend}
 use Rattle.wire.specs.Next.{mostClocks}
@@ -22,17 +20,12 @@ use Rattle.device.specs.Events.{Made, effect, made}
 use Rattle.device.specs.declared.Device.{Device}
 use Rattle.laws.specs.Following.{followed, opensBy, gate-follows, gate-opens}
 use Rattle.survey.specs.Needed.{two-bytes}
-use Rattle.survey.specs.Watching.{watchedPin, watchedClocks, once, at-most-clocks}
+use Rattle.survey.specs.Watching.{watchedClocks, at-most-clocks}
 use Rattle.survey.specs.Survey.{passAt, startPass, followedOf, roomOf, surveyedOf}
 use Rattle.survey.specs.declared.surveying.Room.{Room}
 use Rattle.survey.specs.declared.surveying.Pass.{Pass}
 use Rattle.survey.specs.declared.surveying.Surveyed.{Surveyed}
 use Rattle.survey.specs.declared.surveying.Surveyed.the-variants as surveyed
-
--- the number of an opening, or none, counted
-counted : (b : Bool) (k : ℕ) → length (mark b k []) ≡ (if b then 1 else 0)
-counted true k = refl
-counted false k = refl
 
 -- how many of n clocks open, from whichever number they are counted on
 same-many : (level : Bool) (n k j : ℕ) (t : Timer) → length (timerOpenings level n k t) ≡ length (timerOpenings level n j t)
@@ -54,13 +47,12 @@ same-pass g h a b o p e f q = λ i. passAt (e i) (f i) (q i)
 
 -- what a pass counts of an event at a gate
 pub followed-pass : (v : Pass) (k : ℕ) (e : Event) → followedOf v e ≡ passAt (followed (v .gate) e) (followedOf v e .room .answers) (v .room .openings + length (opensBy (v .gate) k e))
-unfolding watchedPin watchedClocks
+unfolding watchedClocks
 followed-pass v k (Write r x) = same-pass _ _ _ _ _ _ refl refl (sym (add-zero _))
 followed-pass v k (Read r) = same-pass _ _ _ _ _ _ refl refl (sym (add-zero _))
 followed-pass v k PortAcknowledge = same-pass _ _ _ _ _ _ refl refl (sym (add-zero _))
 followed-pass v k TimerAcknowledge = same-pass _ _ _ _ _ _ refl refl (sym (add-zero _))
-followed-pass v k (Pin n level) =
-    same-pass _ _ _ _ _ _ refl refl (ap (λ (m : ℕ). v .room .openings + m) (sym (counted (gatePinned (v .gate) n level .opened) k)))
+followed-pass v k (Pin n level) = same-pass _ _ _ _ _ _ refl refl (sym (add-zero _))
 followed-pass v k (Clocks n) =
     same-pass _ _ _ _ _ _ refl refl (ap (λ (m : ℕ). v .room .openings + m) (same-many (tinLevel (v .gate .c)) n 0 k (v .gate .timer)))
 followed-pass v k Reset = same-pass _ _ _ _ _ _ refl refl (sym (add-zero _))
@@ -133,6 +125,6 @@ few v (Write r x) h = record { answers = omega arith; openings = omega arith }
 few v (Read r) h = record { answers = omega arith; openings = omega arith }
 few v PortAcknowledge h = record { answers = omega arith; openings = omega arith }
 few v TimerAcknowledge h = record { answers = omega arith; openings = omega arith }
-few v (Pin n level) h = record { answers = omega arith; openings = omega (arith, once (v .gate) n level) }
+few v (Pin n level) h = record { answers = omega arith; openings = omega arith }
 few v (Clocks n) h = record { answers = omega arith; openings = omega (arith, at-most-clocks (v .gate) n) }
 few v Reset h = record { answers = omega arith; openings = omega arith }

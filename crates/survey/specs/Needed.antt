@@ -1,7 +1,6 @@
 -- What playing events needs, known without playing them (01, 'The event list').
 use Prim.Native.Nat.{ℕ, _+_, _≤_}
 use mathlib.Core.Path.{_≡_, refl, sym, ap, _∙_}
-use mathlib.Core.Bool.{Bool, true, false}
 use mathlib.Core.List.{List, [], _∷_}
 use native.Mathlib.Nat.{add-zero, add-assoc}
 use native.Mathlib.Omega.{arith}
@@ -11,11 +10,9 @@ use Rattle.event.specs.declared.Answer.the-variants.{Vector, Silent}
 use Rattle.event.specs.declared.Event.{Event}
 use Rattle.event.specs.declared.Event.the-variants.{Write, Read, PortAcknowledge, TimerAcknowledge, Pin, Clocks, Reset}
 use Rattle.wire.specs.Needs.{answersIn, clocksIn, needsOf}
-use Rattle.timer.specs.Running.{mark}
 use Rattle.device.specs.ManyClocks.{at-most}
 use Rattle.device.specs.Events.{answerBytes, effect, made}
 use Rattle.device.specs.Interrupts.{portAcknowledge, timerAcknowledge}
-use Rattle.device.specs.Pins.{pinOf}
 use Rattle.device.specs.declared.Device.{Device}
 
 -- an acknowledge answers two bytes
@@ -59,17 +56,13 @@ clocks-passed d k (e ∷ es) =
     ∙ ap (λ (n : ℕ). n + needsOf es .clocks) (event-clocks d k e)
     ∙ add-assoc k (clocksIn e) (needsOf es .clocks)
 
-one : (b : Bool) (k : ℕ) → length (mark b k []) ≤ 1
-one true k = omega arith
-one false k = omega arith
-
--- an event opens at most once a clock, and one that is no clocks event at most once
-pub event-openings : (d : Device) (k : ℕ) (e : Event) → length (effect d k e .openings) ≤ clocksIn e + 1
+-- an event opens at most once a clock, and one that is no clocks event not at all
+pub event-openings : (d : Device) (k : ℕ) (e : Event) → length (effect d k e .openings) ≤ clocksIn e
 unfolding effect
 event-openings d k (Write r v) = omega arith
 event-openings d k (Read r) = omega arith
 event-openings d k PortAcknowledge = omega arith
 event-openings d k TimerAcknowledge = omega arith
-event-openings d k (Pin n l) = omega (arith, one (pinOf d n l .opened) k)
-event-openings d k (Clocks n) = omega (arith, at-most n k d)
+event-openings d k (Pin n l) = omega arith
+event-openings d k (Clocks n) = at-most n k d
 event-openings d k Reset = omega arith

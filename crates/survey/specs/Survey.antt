@@ -9,9 +9,10 @@ use Rattle.wire.specs.Needs.{clocksIn}
 use Rattle.device.specs.Events.{Made, made}
 use Rattle.device.specs.declared.Device.{Device}
 use Rattle.gate.specs.Fresh.{resetGate}
+use Rattle.gate.specs.Pins.{gatePinned}
 use Rattle.gate.specs.Registers.{gateWritten}
 use Rattle.gate.specs.declared.Gate.{Gate}
-use Rattle.survey.specs.Watching.{watchedPin, watchedClocks}
+use Rattle.survey.specs.Watching.{watchedClocks}
 use Rattle.survey.specs.declared.watching.Watched.{Watched}
 use Rattle.survey.specs.declared.surveying.Room.{Room}
 use Rattle.survey.specs.declared.surveying.Pass.{Pass}
@@ -44,7 +45,7 @@ followedOf v (Write r x) = withGate v (gateWritten (v .gate) r x)
 followedOf v (Read r) = answeredPass v
 followedOf v PortAcknowledge = answeredPass v
 followedOf v TimerAcknowledge = answeredPass v
-followedOf v (Pin n level) = watchedPass v (watchedPin (v .gate) n level)
+followedOf v (Pin n level) = withGate v (gatePinned (v .gate) n level)
 followedOf v (Clocks n) = watchedPass v (watchedClocks (v .gate) n)
 followedOf v Reset = withGate v (resetGate (v .gate))
 

@@ -1,7 +1,6 @@
 // A first pass over a list, which writes nothing: its refusal, or the room that playing it needs (01, 'The event list').
 use crate::watching::Watched;
 use crate::watching::watch_clocks;
-use crate::watching::watch_pin;
 use device::Device;
 use event::Event;
 use gate::Gate;
@@ -65,7 +64,7 @@ impl Pass {
         self
     }
 
-    // The gate as an event left it, and the openings that it had.
+    // The gate as clocks left it, and how many of them opened it.
     fn watched(mut self, w: Watched) -> Pass
         requires { ⌜ (self .room .openings ≤ mostClocks * mostBits) × (w .opened ≤ mostClocks) ⌝ }
         ensures { λ r. ⌜ r ≡ watchedPass self w ⌝ }
@@ -88,7 +87,7 @@ impl Pass {
             Event::Read(_) => self.answered(),
             Event::PortAcknowledge => self.answered(),
             Event::TimerAcknowledge => self.answered(),
-            Event::Pin(pin, level) => self.watched(watch_pin(gate, pin, level)),
+            Event::Pin(pin, level) => self.with_gate(gate.pin(pin, level)),
             Event::Clocks(n) => self.watched(watch_clocks(gate, n)),
             Event::Reset => self.with_gate(gate.reset()),
         }

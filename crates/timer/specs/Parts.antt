@@ -7,8 +7,8 @@ use Rattle.timer.specs.declared.Phase.{Phase}
 use Rattle.timer.specs.declared.Timer.{Timer}
 
 -- the one place where a phase is spelled out from another
-abbrev phaseWith : Phase → Prescaler → Bool → Bool → Bool → Phase
-phaseWith p prescaler zds square due = record { prescaler = prescaler; zds = zds; square = square; due = due }
+abbrev phaseWith : Phase → Prescaler → Bool → Bool → Bool → Bool → Phase
+phaseWith p prescaler zds square due rise = record { prescaler = prescaler; zds = zds; square = square; due = due; rise = rise }
 
 -- and a timer
 abbrev timerWith : Timer → ℕ → ℕ → Count → Count → Phase → Timer
@@ -30,13 +30,16 @@ abbrev pub withPhase : Timer → Phase → Timer
 withPhase t p = timerWith t (t .tcr) (t .tivr) (t .preload) (t .count) p
 
 abbrev pub withPrescaler : Timer → Prescaler → Timer
-withPrescaler t p = withPhase t (phaseWith (t .phase) p (t .phase .zds) (t .phase .square) (t .phase .due))
+withPrescaler t p = withPhase t (phaseWith (t .phase) p (t .phase .zds) (t .phase .square) (t .phase .due) (t .phase .rise))
 
 abbrev pub withZds : Timer → Bool → Timer
-withZds t v = withPhase t (phaseWith (t .phase) (t .phase .prescaler) v (t .phase .square) (t .phase .due))
+withZds t v = withPhase t (phaseWith (t .phase) (t .phase .prescaler) v (t .phase .square) (t .phase .due) (t .phase .rise))
 
 abbrev pub withSquare : Timer → Bool → Timer
-withSquare t v = withPhase t (phaseWith (t .phase) (t .phase .prescaler) (t .phase .zds) v (t .phase .due))
+withSquare t v = withPhase t (phaseWith (t .phase) (t .phase .prescaler) (t .phase .zds) v (t .phase .due) (t .phase .rise))
 
 abbrev pub withDue : Timer → Bool → Timer
-withDue t v = withPhase t (phaseWith (t .phase) (t .phase .prescaler) (t .phase .zds) (t .phase .square) v)
+withDue t v = withPhase t (phaseWith (t .phase) (t .phase .prescaler) (t .phase .zds) (t .phase .square) v (t .phase .rise))
+
+abbrev pub withRise : Timer → Bool → Timer
+withRise t v = withPhase t (phaseWith (t .phase) (t .phase .prescaler) (t .phase .zds) (t .phase .square) (t .phase .due) v)

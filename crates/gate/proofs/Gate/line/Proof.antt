@@ -10,5 +10,5 @@ unfolding lineEvent
 line-spec =
     tie.close
     (tie.spec
-    (λ c κs. search needs) (λ c. simp (eq-eqb _ _ (c .before .if1 .taken), sym (c .tin-event .ensures))) (λ c κs. search needs) (λ c κs. search needs)
-    (λ c. simp (ne-eqb _ _ (c .before .before .before .if1 .left), sym (c .before .before .with-bit .ensures), sym (c .quietly .ensures))))
+    (λ c κs. search needs) (λ c. simp (eq-eqb _ _ (c .before .if1 .taken), sym (c .tin-event .ensures))) (λ c κs. search needs)
+    (λ c. simp (ne-eqb _ _ (c .before .before .if1 .left), sym (c .before .with-bit .ensures))))

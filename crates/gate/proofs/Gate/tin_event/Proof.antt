@@ -10,4 +10,4 @@ tin-event-spec =
     tie.close
     (tie.spec
     (λ c κs. search needs) (λ c κs. search needs) (λ c κs. search needs)
-    (λ c. simp (sym (c .before .before .before .before .tin .ensures), sym (c .before .before .before .tin2 .ensures), sym (c .before .with-bit .ensures))))
+    (λ c. simp (sym (c .before .before .before .tin .ensures), sym (c .before .before .tin2 .ensures), sym (c .before .with-bit .ensures))))

@@ -1,10 +1,15 @@
 -- `run` meets its contract: at each turn what is left of the list, played from here, ends as the whole list from the start.
 use Prim.Native.Nat.{ℕ, _+_, _-_, _≤_, _<_}
 use mathlib.Core.Path.{_≡_, refl, sym, ap, _∙_}
+use mathlib.Core.Bool.{true≢false}
 use mathlib.Core.List.{List}
 use native.Mathlib.Omega.{arith}
 use denote.Ref.{now}
 use borrow.Author.Needs.{needs}
+use borrow.Author.Tests.{leb-true, le-leb}
+use lib.Dec.{leb}
+use Rattle.bits.specs.Choice.{and-left, and-right, both}
+use Rattle.event.specs.Map.{PC0, H1}
 use Rattle.event.specs.declared.Event.{Event}
 use Rattle.wire.specs.Field.{bitsIn}
 use Rattle.wire.specs.Needs.{clocksIn}
@@ -13,7 +18,7 @@ use Rattle.wire.specs.Finds.{moves}
 use Rattle.wire.specs.declared.next.Next.the-variants.{Play}
 use Rattle.clocks.specs.Clocks.{numbers}
 use Rattle.device.specs.Events.{effect}
-use Rattle.play.proofs.Leaves.{Tally, tally, Leaves, wrote, was-read, port-acknowledged, timer-acknowledged, pinned, clocked, was-reset}
+use Rattle.play.proofs.Leaves.{Tally, tally, Leaves, wrote, was-read, port-acknowledged, timer-acknowledged, lined, pinned, clocked, was-reset}
 use Rattle.play.proofs.Reached.{Reached, start, fits, further, finished}
 use Rattle.play.proofs.running.run.Statement.{statement}
 use Rattle.play.proofs.running.run.Tie as tie
@@ -158,22 +163,42 @@ loop-again-4 c =
 enum-known-event-3 : tie.Need-enum-known-event-3 Inv-loop μ-loop
 enum-known-event-3 c = search needs
 
-pin-requires : tie.Need-pin-requires Inv-loop μ-loop
-pin-requires c κs = search needs
+-- the pin is one of port C's
+line-low : (c : tie.Then1 Inv-loop μ-loop) → PC0 ≤ c .before .before .event3 .given .0 .0
+line-low c = leb-true PC0 _ (and-left (leb PC0 (c .before .before .event3 .given .0 .0)) _ (c .if1 .taken))
 
-note-opening-requires : tie.Need-note-opening-requires Inv-loop μ-loop
-note-opening-requires c κs = search needs
+line-high : (c : tie.Then1 Inv-loop μ-loop) → c .before .before .event3 .given .0 .0 < H1
+line-high c = let n = c .before .before .event3 .given .0 .0 in omega (arith, leb-true n 23 (and-right (leb PC0 n) _ (c .if1 .taken)))
+
+sub-line : tie.Need-sub-line Inv-loop μ-loop
+sub-line c = line-low c
+
+line-requires : tie.Need-line-requires Inv-loop μ-loop
+line-requires c κs = search needs
 
 loop-less-5 : tie.Need-loop-less-5 Inv-loop μ-loop
-loop-less-5 c = less (c .before .before .before .before .before .before .before .before .before)
+loop-less-5 c = less (c .before .before .before .before .before)
 
 loop-again-5 : tie.Need-loop-again-5 Inv-loop μ-loop
 loop-again-5 c =
-    reached (c .before .before .before .before .before .before .before .before .before) (c .before .before .before .before .before .before .before .event3 .given .1)
-    (pinned _ _ (c .before .before .before .before .before .pin .ensures) (c .before .before .note-opening .ensures))
+    reached (c .before .before .before .before .before) (c .before .before .before .event3 .given .1)
+    (lined _ _ (line-low (c .before)) (line-high (c .before)) (c .line .ensures))
 
-add-opened : tie.Need-add-opened Inv-loop μ-loop
-add-opened c = let r = loop-again-5 c in omega (arith, r .counted .opened, r .counted .clocked, r .few)
+-- the pin is none of port C's
+line-none : (c : tie.Else1 Inv-loop μ-loop) → (let n = c .before .before .event3 .given .0 .0 in PC0 ≤ n → n < H1 → ⊥)
+line-none c low high =
+    let n = c .before .before .event3 .given .0 .0 in
+    true≢false (sym (both (leb PC0 n) (leb n 23) (le-leb PC0 n low) (le-leb n 23 (omega arith))) ∙ c .if1 .left)
+
+pin-requires : tie.Need-pin-requires Inv-loop μ-loop
+pin-requires c κs = search needs
+
+loop-less-6 : tie.Need-loop-less-6 Inv-loop μ-loop
+loop-less-6 c = less (c .before .before .before .before .before)
+
+loop-again-6 : tie.Need-loop-again-6 Inv-loop μ-loop
+loop-again-6 c =
+    reached (c .before .before .before .before .before) (c .before .before .before .event3 .given .1) (pinned _ _ (line-none (c .before)) (c .pin .ensures))
 
 enum-known-event-4 : tie.Need-enum-known-event-4 Inv-loop μ-loop
 enum-known-event-4 c = search needs
@@ -181,20 +206,20 @@ enum-known-event-4 c = search needs
 clocks-requires : tie.Need-clocks-requires Inv-loop μ-loop
 clocks-requires c κs = search needs
 
-loop-less-6 : tie.Need-loop-less-6 Inv-loop μ-loop
-loop-less-6 c = less (c .before .before .before .before .before .before .before .before .before)
+loop-less-7 : tie.Need-loop-less-7 Inv-loop μ-loop
+loop-less-7 c = less (c .before .before .before .before .before .before .before .before .before)
 
-loop-again-6 : tie.Need-loop-again-6 Inv-loop μ-loop
-loop-again-6 c =
+loop-again-7 : tie.Need-loop-again-7 Inv-loop μ-loop
+loop-again-7 c =
     let n = c .before .before .before .before .before .before .before .before .before in
     let is = c .before .before .before .before .before .before .before .event4 .given .1 in
     reached n is (clocked _ (fitting n is) (c .before .before .before .before .clocks .ensures))
 
-add-opened-2 : tie.Need-add-opened-2 Inv-loop μ-loop
-add-opened-2 c = let r = loop-again-6 c in omega (arith, r .counted .opened, r .counted .clocked, r .few)
+add-opened : tie.Need-add-opened Inv-loop μ-loop
+add-opened c = let r = loop-again-7 c in omega (arith, r .counted .opened, r .counted .clocked, r .few)
 
 add-clocks : tie.Need-add-clocks Inv-loop μ-loop
-add-clocks c = let r = loop-again-6 c in omega (arith, r .counted .clocked, r .few)
+add-clocks c = let r = loop-again-7 c in omega (arith, r .counted .clocked, r .few)
 
 enum-told-3 : tie.Need-enum-told-3 Inv-loop μ-loop
 enum-told-3 c = search needs
@@ -202,11 +227,11 @@ enum-told-3 c = search needs
 reset-requires : tie.Need-reset-requires Inv-loop μ-loop
 reset-requires c κs = search needs
 
-loop-less-7 : tie.Need-loop-less-7 Inv-loop μ-loop
-loop-less-7 c = less (c .before .before .before)
+loop-less-8 : tie.Need-loop-less-8 Inv-loop μ-loop
+loop-less-8 c = less (c .before .before .before)
 
-loop-again-7 : tie.Need-loop-again-7 Inv-loop μ-loop
-loop-again-7 c = reached (c .before .before .before) (c .before .enum-told3 .given .1) (was-reset (c .reset .ensures))
+loop-again-8 : tie.Need-loop-again-8 Inv-loop μ-loop
+loop-again-8 c = reached (c .before .before .before) (c .before .enum-told3 .given .1) (was-reset (c .reset .ensures))
 
 pub run-spec : {M : Type 1} → statement M
 run-spec =
@@ -215,5 +240,6 @@ run-spec =
     Inv-loop μ-loop loop-holds next-event-requires enum-known-next same-length same-length-2 returns enum-known-event write-requires loop-less
     loop-again enum-known-event-2 read-requires answer-requires add-answered loop-less-2 loop-again-2 enum-told port-acknowledge-requires
     acknowledge-requires add-answered-2 loop-less-3 loop-again-3 enum-told-2 timer-acknowledge-requires acknowledge-requires-2 add-answered-3
-    loop-less-4 loop-again-4 enum-known-event-3 pin-requires note-opening-requires add-opened loop-less-5 loop-again-5 enum-known-event-4
-    clocks-requires add-opened-2 add-clocks loop-less-6 loop-again-6 enum-told-3 reset-requires loop-less-7 loop-again-7)
+    loop-less-4 loop-again-4 enum-known-event-3 sub-line line-requires loop-less-5 loop-again-5 pin-requires loop-less-6 loop-again-6
+    enum-known-event-4
+    clocks-requires add-opened add-clocks loop-less-7 loop-again-7 enum-told-3 reset-requires loop-less-8 loop-again-8)

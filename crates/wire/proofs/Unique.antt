@@ -1,14 +1,19 @@
--- The contract of the public function, as the check reads it, leaves one result.
+-- Each public function's contract, as the check reads it, leaves one possible result (01, 'How strict the contracts are').
 use mathlib.Core.Path.{_≡_, sym, _∙_}
-use contract.Lifetimes.{Lfts}
-use borrow.Fn.World.{ArgsD, ResD}
-use borrow.Fn.Kinds.{endedOf}
-use denote.Triple.Clauses.{AtExit}
-use Rattle.wire.proofs.next.next_event as next-event
-use Rattle.wire.proofs.next.next_event.Kinds as next-event-kinds
+use Rattle.bits.proofs.Unique.{OneResult}
 use Rattle.wire.proofs.next.next_event.Reads as next-event-reads
+use Rattle.wire.proofs.next.size_of.Reads as size-of-reads
+use Rattle.wire.proofs.word.event_of.Reads as event-of-reads
+use Rattle.wire.proofs.word.word_at.Reads as word-at-reads
 
-pub one-next-event : (κs : Lfts 1) (a : ArgsD next-event.signature κs) (r r' : ResD next-event.signature κs)
-    (x x' : AtExit (endedOf 1 next-event-kinds.ps next-event-kinds.r) κs)
-    → next-event-reads.Post κs a r x → next-event-reads.Post κs a r' x' → r ≡ r'
-one-next-event κs a r r' x x' p q = p ∙ sym q
+pub one-next-event : OneResult next-event-reads.Post
+one-next-event κs a r r' s s' p q = p ∙ sym q
+
+pub one-size-of : OneResult size-of-reads.Post
+one-size-of κs a r r' s s' p q = p .0 ∙ sym (q .0)
+
+pub one-event-of : OneResult event-of-reads.Post
+one-event-of κs a r r' s s' p q = p ∙ sym q
+
+pub one-word-at : OneResult word-at-reads.Post
+one-word-at κs a r r' s s' p q = p .0 ∙ sym (q .0)

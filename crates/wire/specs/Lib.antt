@@ -2,6 +2,7 @@ pub mod Field
 pub mod Splitting
 pub mod Next
 pub mod Head
+pub mod Word
 pub mod List
 pub mod Needs
 pub mod WellFormed

@@ -5,7 +5,7 @@ ghost use lib.ListN.{getD};
 ghost use Rattle.wire.specs.Field.{fieldAt};
 
 // Byte i of a list; past its end 0.
-fn byte_at(list: &[u8], i: usize) -> u8
+pub(crate) fn byte_at(list: &[u8], i: usize) -> u8
     ensures { λ r. ⌜ r ≡ getD (now (list .entry)) i 0 ⌝ }
 {
     if i < list.len() { list[i] } else { 0 }

@@ -9,40 +9,40 @@ ghost use Rattle.wire.specs.Head.{headAt};
 ghost use Rattle.wire.specs.Next.{kindBits, clocksBits, sizeOf, mostBits, pinOrRefusal, closeAt, eventAt, nextAt};
 
 // A list has at most so many bytes.
-const MOST_BYTES: usize = 16384;
+pub const MOST_BYTES: usize = 16384;
 
 const MOST_BITS: usize = MOST_BYTES * 8;
 
 // The kinds; 7 is end.
-const WRITE: u32 = 0;
+pub(crate) const WRITE: u32 = 0;
 
-const READ: u32 = 1;
+pub(crate) const READ: u32 = 1;
 
-const PORT_ACKNOWLEDGE: u32 = 2;
+pub(crate) const PORT_ACKNOWLEDGE: u32 = 2;
 
-const TIMER_ACKNOWLEDGE: u32 = 3;
+pub(crate) const TIMER_ACKNOWLEDGE: u32 = 3;
 
-const PIN: u32 = 4;
+pub(crate) const PIN: u32 = 4;
 
-const CLOCKS: u32 = 5;
+pub(crate) const CLOCKS: u32 = 5;
 
 const RESET: u32 = 6;
 
 // How many bits a kind and each field take.
-const KIND_BITS: usize = 3;
+pub(crate) const KIND_BITS: usize = 3;
 
 const REGISTER_BITS: usize = 5;
 
 const VALUE_BITS: usize = 8;
 
-const PIN_BITS: usize = 5;
+pub(crate) const PIN_BITS: usize = 5;
 
 const LEVEL_BITS: usize = 1;
 
-const CLOCKS_BITS: usize = 16;
+pub(crate) const CLOCKS_BITS: usize = 16;
 
 // The head of an event, its first bits: the kind, the register or the pin, the value or the level. Clocks alone reach further.
-const HEAD_BITS: usize = 16;
+pub(crate) const HEAD_BITS: usize = 16;
 
 // How many bits of the head follow each field.
 const AFTER_KIND: u32 = (HEAD_BITS - KIND_BITS) as u32;
@@ -59,7 +59,7 @@ const VALUE_MASK: u32 = (1 << VALUE_BITS) - 1;
 const LEVEL_MASK: u32 = (1 << LEVEL_BITS) - 1;
 
 // The last pin, H4.
-const LAST_PIN: u8 = map::H4;
+pub(crate) const LAST_PIN: u8 = map::H4;
 
 // What stands at a bit of a list.
 pub enum Next {
@@ -72,7 +72,7 @@ pub enum Next {
 }
 
 // How many bits an event of this kind needs, those of the kind with them.
-fn size_of(kind: u32) -> usize
+pub fn size_of(kind: u32) -> usize
     ensures { λ r. ⌜ (r ≡ sizeOf kind) × (r ≤ kindBits + clocksBits) ⌝ }
 {
     match kind {
@@ -85,21 +85,21 @@ fn size_of(kind: u32) -> usize
 }
 
 // The register of a write or a read, or the pin of a pin event.
-fn register_or_pin(head: u32) -> u8
+pub(crate) fn register_or_pin(head: u32) -> u8
     ensures { λ r. ⌜ r ≡ head / 2 ^ 8 % 2 ^ 5 ⌝ }
 {
     ((head >> AFTER_REGISTER) & REGISTER_MASK) as u8
 }
 
 // The value of a write.
-fn value_of(head: u32) -> u8
+pub(crate) fn value_of(head: u32) -> u8
     ensures { λ r. ⌜ r ≡ head % 2 ^ 8 ⌝ }
 {
     (head & VALUE_MASK) as u8
 }
 
 // The level of a pin.
-fn level_of(head: u32) -> bool
+pub(crate) fn level_of(head: u32) -> bool
     ensures { λ r. ⌜ r ≡ eqb (head / 2 ^ 7 % 2) 1 ⌝ }
 {
     (head >> AFTER_LEVEL) & LEVEL_MASK == 1

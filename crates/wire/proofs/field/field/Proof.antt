@@ -24,7 +24,7 @@ masked s at w bytes h e =
     ap₂ (λ (x y : ℕ). bitAnd (bytes / 2 ^ (24 - x - w)) (y - 1)) (and-mask at 3) (ones w h)
     ∙ and-mask _ w
     ∙ ap (λ (x : ℕ). x / 2 ^ (24 - at % 8 - w) % 2 ^ w) e
-    ∙ field-window s at w (omega arith)
+    ∙ field-window s 24 at w (omega arith)
 
 sub-mask : tie.Need-sub-mask
 sub-mask c = let a = c .before .before in rw (ones (a .args .width) (a .pre)) (pow-pos _)

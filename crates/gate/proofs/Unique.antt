@@ -19,6 +19,14 @@ use Rattle.gate.proofs.Gate.write_preload.Reads as write-preload-reads
 use Rattle.gate.proofs.Gate.write_tsr.Reads as write-tsr-reads
 use Rattle.gate.proofs.Gate.write.Reads as write-reads
 use Rattle.gate.proofs.Gate.sound.Reads as sound-reads
+use Rattle.gate.proofs.Gate.quiet.Reads as quiet-reads
+use Rattle.gate.proofs.Gate.passed.Reads as passed-reads
+use Rattle.gate.proofs.Gate.regular.Reads as regular-reads
+use Rattle.gate.proofs.Gate.opened.Reads as opened-reads
+use Rattle.gate.proofs.Gate.gone_on.Reads as gone-on-reads
+use Rattle.gate.proofs.Gate.list.{signature as list-signature}
+use Rattle.gate.proofs.Gate.list.Kinds as list-kinds
+use Rattle.gate.proofs.Gate.list.Reads as list-reads
 
 pub clock : OneResult clock-reads.Post
 clock κs a r r' s s' p q = p ∙ sym q
@@ -50,7 +58,26 @@ write κs a r r' s s' p q = p ∙ sym q
 pub sound : OneResult sound-reads.Post
 sound κs a r r' s s' p q = p ∙ sym q
 
--- and of `clocks` one content of the lent row too
+pub quiet : OneResult quiet-reads.Post
+quiet κs a r r' s s' p q = p ∙ sym q
+
+pub passed : OneResult passed-reads.Post
+passed κs a r r' s s' p q = p ∙ sym q
+
+pub regular : OneResult regular-reads.Post
+regular κs a r r' s s' p q = p ∙ sym q
+
+pub opened : OneResult opened-reads.Post
+opened κs a r r' s s' p q = p ∙ sym q
+
+pub gone-on : OneResult gone-on-reads.Post
+gone-on κs a r r' s s' p q = p ∙ sym q
+
+-- and of `clocks` and `list` one content of the lent row too
 pub clocks : (κs : Lfts 1) (a : ArgsD signature κs) (r r' : ResD signature κs) (s s' : AtExit (endedOf 1 kinds.ps kinds.r) κs)
     → clocks-reads.Post κs a r s → clocks-reads.Post κs a r' s' → (r ≡ r') × (now (s .1 .1 .1 .0) ≡ now (s' .1 .1 .1 .0))
 clocks κs a r r' s s' p q = (p .0 ∙ sym (q .0), p .1 ∙ sym (q .1))
+
+pub list : (κs : Lfts 1) (a : ArgsD list-signature κs) (r r' : ResD list-signature κs) (s s' : AtExit (endedOf 1 list-kinds.ps list-kinds.r) κs)
+    → list-reads.Post κs a r s → list-reads.Post κs a r' s' → now (s .1 .1 .1 .0) ≡ now (s' .1 .1 .1 .0)
+list κs a r r' s s' p q = p ∙ sym q

@@ -4,3 +4,4 @@ pub mod Pins
 pub mod Clocking
 pub mod Fresh
 pub mod Validity
+pub mod Ahead

@@ -3,6 +3,7 @@ use mathlib.Core.Path.{sym, _∙_}
 use Rattle.bits.proofs.Unique.{OneResult}
 use Rattle.parallel.proofs.Parallel.clock.Reads as clock-reads
 use Rattle.parallel.proofs.Parallel.clocks.Reads as clocks-reads
+use Rattle.parallel.proofs.Parallel.byte.Reads as byte-reads
 use Rattle.parallel.proofs.Parallel.read.Reads as read-reads
 use Rattle.parallel.proofs.Parallel.write.Reads as write-reads
 use Rattle.parallel.proofs.Parallel.fresh.Reads as fresh-reads
@@ -10,6 +11,9 @@ use Rattle.parallel.proofs.Parallel.reset.Reads as reset-reads
 use Rattle.parallel.proofs.Parallel.psr.Reads as psr-reads
 use Rattle.parallel.proofs.Parallel.requests.Reads as requests-reads
 use Rattle.parallel.proofs.Parallel.acknowledge.Reads as acknowledge-reads
+use Rattle.parallel.proofs.Parallel.buffer.Reads as buffer-reads
+use Rattle.parallel.proofs.Parallel.rules.Reads as rules-reads
+use Rattle.parallel.proofs.pins.asserts.Reads as asserts-reads
 use Rattle.parallel.proofs.Parallel.pins.Reads as pins-reads
 use Rattle.parallel.proofs.Parallel.first_pin.Reads as first-pin-reads
 use Rattle.parallel.proofs.Parallel.second_pin.Reads as second-pin-reads
@@ -27,6 +31,9 @@ clock κs a r r' s s' p q = p ∙ sym q
 
 pub clocks : OneResult clocks-reads.Post
 clocks κs a r r' s s' p q = p ∙ sym q
+
+pub byte : OneResult byte-reads.Post
+byte κs a r r' s s' p q = p ∙ sym q
 
 pub read : OneResult read-reads.Post
 read κs a r r' s s' p q = p ∙ sym q
@@ -48,6 +55,15 @@ requests κs a r r' s s' p q = p ∙ sym q
 
 pub acknowledge : OneResult acknowledge-reads.Post
 acknowledge κs a r r' s s' p q = p ∙ sym q
+
+pub buffer : OneResult buffer-reads.Post
+buffer κs a r r' s s' p q = p ∙ sym q
+
+pub rules : OneResult rules-reads.Post
+rules κs a r r' s s' p q = p ∙ sym q
+
+pub asserts : OneResult asserts-reads.Post
+asserts κs a r r' s s' p q = p ∙ sym q
 
 pub pins : OneResult pins-reads.Post
 pins κs a r r' s s' p q = p ∙ sym q

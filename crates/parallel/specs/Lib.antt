@@ -1,6 +1,7 @@
 pub mod Parts
 pub mod Pins
 pub mod Data
+pub mod Buffers
 pub mod Switching
 pub mod Interrupts
 pub mod Clocking

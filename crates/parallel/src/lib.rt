@@ -34,7 +34,7 @@ impl Parallel {
     pub const PIVR_BITS: u8 = 0xfc;
 }
 
-// Ports and pairs after a data read, and the byte read.
+// Ports and pairs after a data read, and the byte read: what the definition of a data read hands back. The code gives each by itself.
 pub struct DataRead {
     pub parallel: Parallel,
     pub byte: u8,

@@ -1,12 +1,13 @@
 // A pair by its name, its own port, and what the registers say of it (01, 'Mode 0').
 use crate::Parallel;
-use port::Cells;
+use port::Buffer;
 use port::Link;
 use port::Pair;
 use port::Port;
 use port::Rules;
 ghost use mathlib.Core.Path.{_≡_};
-ghost use Rattle.parallel.specs.Parts.{linkOf, withLink, ownPort, withCells, rulesAt};
+ghost use Rattle.parallel.specs.Buffers.{bufferOf, withBuffer};
+ghost use Rattle.parallel.specs.Parts.{linkOf, withLink, ownPort, rulesAt};
 
 impl Parallel {
     // A pair.
@@ -48,19 +49,47 @@ impl Parallel {
         }
     }
 
-    // Other cells in both ports.
-    pub(crate) fn with_cells(mut self, a: Cells, b: Cells) -> Parallel
-        ensures { λ r. ⌜ r ≡ withCells self a b ⌝ }
+    // A pair with the cells of its own port.
+    pub fn buffer(self, pair: Pair) -> Buffer
+        ensures { λ r. ⌜ r ≡ bufferOf self pair ⌝ }
     {
-        let one = Port { cells: a, ..self.a };
-        let two = Port { cells: b, ..self.b };
-        self.a = one;
-        self.b = two;
+        let port = self.own(pair);
+        let cells = port.cells;
+        Buffer {
+            cells: cells,
+            link: self.link(pair),
+        }
+    }
+
+    // Others in their place.
+    pub(crate) fn with_buffer(mut self, pair: Pair, buffer: Buffer) -> Parallel
+        ensures { λ r. ⌜ r ≡ withBuffer self pair buffer ⌝ }
+    {
+        let cells = buffer.cells;
+        let link = buffer.link;
+        match pair {
+            Pair::H12 => {
+                let port = Port {
+                    cells: cells,
+                    ..self.a
+                };
+                self.a = port;
+                self.h12 = link;
+            }
+            Pair::H34 => {
+                let port = Port {
+                    cells: cells,
+                    ..self.b
+                };
+                self.b = port;
+                self.h34 = link;
+            }
+        }
         self
     }
 
     // What the registers say of a pair.
-    pub(crate) fn rules(self, pair: Pair) -> Rules
+    pub fn rules(self, pair: Pair) -> Rules
         ensures { λ r. ⌜ r ≡ rulesAt self pair ⌝ }
     {
         let link = self.link(pair);

@@ -8,7 +8,7 @@ ghost use mathlib.Core.Path.{_≡_};
 ghost use Rattle.parallel.specs.Pins.{pinsOf, assertsOf, firstEdge, secondEdge, withSecond, firstPin, secondPin, parallelPinned, secondLevel};
 
 // A pin goes from one outside level to another: it comes to be asserted.
-fn asserts(old: bool, new: bool, sense: bool) -> bool
+pub fn asserts(old: bool, new: bool, sense: bool) -> bool
     ensures { λ r. ⌜ r ≡ assertsOf old new sense ⌝ }
 {
     (old != new) & (new == sense)
@@ -27,18 +27,10 @@ impl Parallel {
     fn first_edge(self, pair: Pair) -> Parallel
         ensures { λ r. ⌜ r ≡ firstEdge self pair ⌝ }
     {
-        let link = self.link(pair);
-        let rules = self.rules(pair);
-        let way = rules.way;
-        let on = rules.accepts(link.held, link.strobe.asserted);
-        let a = self.a
-            .cells
-            .moved(on & rules.a, way, link.held, self.pins(Pair::H12));
-        let b = self.b
-            .cells
-            .moved(on & rules.b, way, link.held, self.pins(Pair::H34));
-        self.with_cells(a, b)
-            .with_link(pair, link.first_edge(rules))
+        self.with_buffer(
+            pair,
+            self.buffer(pair).edge(self.rules(pair), self.pins(pair)),
+        )
     }
 
     // An asserted edge of H2 or H4.

@@ -75,9 +75,9 @@ fn read_data(device: &mut [u8], pair: Pair) -> u32
     ensures answer { λ r. ⌜ r ≡ readData (parallelOf (now (device .entry))) pair .byte ⌝ }
     ensures device { λ _. ⌜ now (device .exit) ≡ bytesBeside (now (device .entry)) (readData (parallelOf (now (device .entry))) pair .parallel) ⌝ }
 {
-    let got = parallel_of(device).read(pair);
-    put_parallel(got.parallel, device);
-    got.byte as u32
+    let p = parallel_of(device);
+    put_parallel(p.read(pair), device);
+    p.byte(pair) as u32
 }
 
 // A level comes to a pin that is not port C's.
@@ -148,7 +148,7 @@ pub extern "C" fn pit_read(device: &mut [u8], number: u8) -> u32
         _ => {
             let d = device_of(device);
             put_device(d, device);
-            d.read(number).byte as u32
+            d.peek(number) as u32
         }
     }
 }

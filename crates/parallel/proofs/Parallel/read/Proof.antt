@@ -1,38 +1,14 @@
 use mathlib.Core.Path.{sym}
-use Rattle.parallel.specs.Data.{readData}
+use Rattle.parallel.specs.Buffers.{read-moves}
 use borrow.Author.Needs.{needs}
 use Rattle.parallel.proofs.Parallel.read.Statement.{statement}
 use Rattle.parallel.proofs.Parallel.read.Tie as tie
 
 returns : tie.Need-returns
-unfolding readData
 returns c =
-    simp (
-      sym (c .before .before .before .before .before .before .before .before .own .ensures),
-      sym (c .before .before .before .before .before .before .rules .ensures),
-      sym (c .before .before .before .before .before .inputs .ensures),
-      c .before .before .before .before .if1 .taken,
-      sym (c .before .before .before .link .ensures),
-      sym (c .before .before .oldest .ensures),
-      sym (c .before .chosen .ensures),
-      sym (c .drawn .ensures),
-    )
-
-returns-2 : tie.Need-returns-2
-unfolding readData
-returns-2 c =
-    simp (
-      sym (c .before .before .before .before .before .before .own .ensures),
-      sym (c .before .before .before .before .rules .ensures),
-      sym (c .before .before .before .inputs .ensures),
-      c .before .before .if1 .left,
-      sym (c .before .pins .ensures),
-      sym (c .chosen2 .ensures),
-    )
+    let at-read = c .before in
+    let at-rules = at-read .before in
+    rw (c .with-buffer .ensures, at-read .read .ensures, at-rules .rules .ensures, at-rules .before .buffer .ensures) (sym (read-moves _ _))
 
 pub read-spec : {M : Type 1} → statement M
-read-spec =
-    tie.close
-    (tie.spec
-    (λ c κs. search needs) (λ c κs. search needs) (λ c κs. search needs) (λ c κs. search needs) (λ c κs. search needs) (λ c κs. search needs)
-    (λ c κs. search needs) returns (λ c κs. search needs) (λ c κs. search needs) returns-2)
+read-spec = tie.close (tie.spec (λ c κs. search needs) (λ c κs. search needs) (λ c κs. search needs) (λ c κs. search needs) returns)

@@ -38,13 +38,12 @@ returns-3 c =
 returns-4 : tie.Need-returns-4
 unfolding readAnswer
 returns-4 c =
-    let at-read = c .before in
-    let at-put-device = at-read .before .before .before in
+    let at-put-device = c .before .before .before in
     let at-device-of = at-put-device .before .before in
     let at-match = at-device-of .before .before in
     let others = at-match .match .rest in
     let long = at-match .before .if1 .left in (
-      rw (at-read .read .ensures, at-device-of .device-of .ensures, eq-eqb _ _ long),
+      rw (c .peek .ensures, at-device-of .device-of .ensures, eq-eqb _ _ long),
       stored _ _ _ _ (at-device-of .device-of .ensures) long (other-reads _ _ (others .0 .1) (others .1)) (at-put-device .put-device .ensures),
     )
 

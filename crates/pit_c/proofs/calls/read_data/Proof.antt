@@ -7,11 +7,10 @@ returns : tie.Need-returns
 returns c =
     let at-put = c .before .before .before in
     let at-read = at-put .before .before in
-    let read = at-read .read .ensures in
     let of = at-read .before .parallel-of .ensures in
-    (rw (read, of), rw (at-put .put-parallel .ensures, read, of))
+    (rw (c .byte .ensures, of), rw (at-put .put-parallel .ensures, at-read .read .ensures, of))
 
 pub read-data-spec : {M : Type 1} → statement M
 read-data-spec =
     tie.close
-    (tie.spec (λ c κs. search needs) (λ c κs. search needs) (λ c κs. search needs) (λ c. search needs) (λ c. search needs) returns)
+    (tie.spec (λ c κs. search needs) (λ c κs. search needs) (λ c κs. search needs) (λ c κs. search needs) (λ c. search needs) (λ c. search needs) returns)

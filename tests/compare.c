@@ -5,6 +5,7 @@
  *   compare --lists FILE...          lists from files, of three forms: lines `D` and a device in hex (fresh if
  *                                    none) and `L` and a list in hex; lines of hex, which are one list; a list's
  *                                    own bytes, where they are no text. `#` begins a remark; blank lines are none
+ *   .. --valid                       any of these, but no single events on devices that number 8 refuses
  *
  * After every event of a well-formed list, played by the single calls, everything that can be seen of the
  * device must be equal; so it must after single events on devices of any kind, refused ones among them; whole
@@ -495,16 +496,23 @@ static void damage(struct generate_random *random, uint8_t *bytes)
 
 #define LONE_EVENTS 6u
 
+/* For what says nothing of single events on refused devices; pit.h does. */
+static bool valid_alone;
+
 /* Each event comes to the device as it was handed in. */
 static void compare_lone_events(struct generate_random *random, const uint8_t *handed)
 {
+    struct model_device given = model_from_bytes(handed);
     unsigned number;
 
+    if (valid_alone && !model_valid(&given)) {
+        return;
+    }
     trial.part = "an event on a device of any kind";
     trial.device = handed;
     trial.list = NULL;
     for (number = 0; number < LONE_EVENTS; number++) {
-        struct model_device model = model_from_bytes(handed);
+        struct model_device model = given;
         uint8_t device[PIT_DEVICE_SIZE];
 
         memcpy(device, handed, PIT_DEVICE_SIZE);
@@ -1149,7 +1157,7 @@ static void print_summary(void)
 
 static int usage(void)
 {
-    fprintf(stderr, "usage: compare COUNT SEED [--first N] | compare --long | compare --lists FILE...\n");
+    fprintf(stderr, "usage: compare COUNT SEED [--first N] | compare --long | compare --lists FILE..., --valid last\n");
     return 2;
 }
 
@@ -1207,6 +1215,10 @@ int main(int argument_count, char **arguments)
     uint64_t first = 0;
 
     trial.event_number = NO_EVENT;
+    if (argument_count > 2 && strcmp(arguments[argument_count - 1], "--valid") == 0) {
+        valid_alone = true;
+        argument_count--;
+    }
     if (argument_count >= 2 && strcmp(arguments[1], "--lists") == 0) {
         return compare_files(argument_count - 2, arguments + 2);
     }

@@ -12,6 +12,9 @@ use Rattle.parallel.proofs.Parallel.psr.Reads as psr-reads
 use Rattle.parallel.proofs.Parallel.requests.Reads as requests-reads
 use Rattle.parallel.proofs.Parallel.acknowledge.Reads as acknowledge-reads
 use Rattle.parallel.proofs.Parallel.buffer.Reads as buffer-reads
+use Rattle.parallel.proofs.Parallel.with_buffer.Reads as with-buffer-reads
+use Rattle.parallel.proofs.Parallel.with_links.Reads as with-links-reads
+use Rattle.parallel.proofs.Parallel.with_first.Reads as with-first-reads
 use Rattle.parallel.proofs.Parallel.rules.Reads as rules-reads
 use Rattle.parallel.proofs.pins.asserts.Reads as asserts-reads
 use Rattle.parallel.proofs.Parallel.pins.Reads as pins-reads
@@ -58,6 +61,15 @@ acknowledge κs a r r' s s' p q = p ∙ sym q
 
 pub buffer : OneResult buffer-reads.Post
 buffer κs a r r' s s' p q = p ∙ sym q
+
+pub with-buffer : OneResult with-buffer-reads.Post
+with-buffer κs a r r' s s' p q = p ∙ sym q
+
+pub with-links : OneResult with-links-reads.Post
+with-links κs a r r' s s' p q = p ∙ sym q
+
+pub with-first : OneResult with-first-reads.Post
+with-first κs a r r' s s' p q = p ∙ sym q
 
 pub rules : OneResult rules-reads.Post
 rules κs a r r' s s' p q = p ∙ sym q

@@ -7,7 +7,7 @@ use port::Port;
 use port::Rules;
 ghost use mathlib.Core.Path.{_≡_};
 ghost use Rattle.parallel.specs.Buffers.{bufferOf, withBuffer};
-ghost use Rattle.parallel.specs.Parts.{linkOf, withLink, ownPort, rulesAt};
+ghost use Rattle.parallel.specs.Parts.{withLinks, linkOf, withLink, ownPort, rulesAt};
 
 impl Parallel {
     // A pair.
@@ -37,6 +37,15 @@ impl Parallel {
         self
     }
 
+    // Other pairs in the places of both.
+    pub fn with_links(mut self, one: Link, two: Link) -> Parallel
+        ensures { λ r. ⌜ r ≡ withLinks self one two ⌝ }
+    {
+        self.h12 = one;
+        self.h34 = two;
+        self
+    }
+
     // A pair's own port: A of H1 and H2, B of H3 and H4.
     pub(crate) fn own(self, pair: Pair) -> Port
         ensures { λ r. ⌜ r ≡ ownPort self pair ⌝ }
@@ -62,7 +71,7 @@ impl Parallel {
     }
 
     // Others in their place.
-    pub(crate) fn with_buffer(mut self, pair: Pair, buffer: Buffer) -> Parallel
+    pub fn with_buffer(mut self, pair: Pair, buffer: Buffer) -> Parallel
         ensures { λ r. ⌜ r ≡ withBuffer self pair buffer ⌝ }
     {
         let cells = buffer.cells;

@@ -5,7 +5,7 @@ use port::Pair;
 use port::control::first_sense;
 use port::control::second_sense;
 ghost use mathlib.Core.Path.{_≡_};
-ghost use Rattle.parallel.specs.Pins.{pinsOf, assertsOf, firstEdge, secondEdge, withSecond, firstPin, secondPin, parallelPinned, secondLevel};
+ghost use Rattle.parallel.specs.Pins.{pinsOf, assertsOf, firstEdge, secondEdge, withFirst, withSecond, firstPin, secondPin, parallelPinned, secondLevel};
 
 // A pin goes from one outside level to another: it comes to be asserted.
 pub fn asserts(old: bool, new: bool, sense: bool) -> bool
@@ -40,6 +40,21 @@ impl Parallel {
         let link = self.link(pair);
         let rules = self.rules(pair);
         self.with_link(pair, link.second_edge(rules))
+    }
+
+    // H1 or H3 at a level.
+    pub fn with_first(mut self, pair: Pair, level: bool) -> Parallel
+        ensures { λ r. ⌜ r ≡ withFirst self pair level ⌝ }
+    {
+        match pair {
+            Pair::H12 => {
+                self.h12.level1 = level;
+            }
+            Pair::H34 => {
+                self.h34.level1 = level;
+            }
+        }
+        self
     }
 
     // H2 or H4 at a level.

@@ -2,10 +2,8 @@
 use Prim.Native.Nat.{ℕ, _+_, _*_, _≤_, _<_}
 use mathlib.Core.Path.{_≡_, refl, sym, ap, _∙_}
 use mathlib.Core.List.{List, [], _++_}
-use mathlib.Core.Logic.{_⊎_, inl, inr}
 use native.Mathlib.Nat.{add-zero, zero-add}
 use native.Mathlib.Omega.{arith}
-use denote.Enum.Declared.{tagOf}
 use lib.ListN.{length, length-append}
 use lib.Seq.{sets, length-sets}
 use Rattle.event.specs.declared.Event.{Event}
@@ -15,9 +13,9 @@ use Rattle.wire.specs.Needs.{clocksIn, two-answers}
 use Rattle.wire.specs.List.{Parsed, events, refused, prepend, follow, rest, parsed}
 use Rattle.wire.specs.Rest.{rest-reads}
 use Rattle.wire.specs.Finds.{moves}
+use Rattle.wire.specs.Word.{NoEvent}
 use Rattle.wire.specs.declared.next.Next.{Next}
 use Rattle.wire.specs.declared.next.Next.the-variants.{Play, End, Refused}
-use Rattle.wire.proofs.next.Next.{the-type}
 use Rattle.clocks.specs.Clocks.{numbers}
 use Rattle.clocks.specs.Filling.{sets-append}
 use Rattle.device.specs.Events.{Made, effect, made}
@@ -127,21 +125,20 @@ module _ (s A₀ R₀ : List ℕ) (d₀ : Device) (A R : List ℕ) (t : Tally) (
       }
 
   -- no event stands here: the run ends as the list does
-  last : (x : Next) → (tagOf the-type x ≡ 1) ⊎ (tagOf the-type x ≡ 2) → (es : List Event)
+  last : (x : Next) → NoEvent x → (es : List Event)
       → endingOf t A R (follow (rest s) x) ≡ endingOf (tally d₀ 0 0 0) A₀ R₀ (events es)
       → result (success (t .device) (t .answers) (t .openings) (t .clocks)) A R ≡ stored (made d₀ 0 es) A₀ R₀
   unfolding made
-  last (Play e p) (inl h) es same = absurd (omega arith)
-  last (Play e p) (inr h) es same = absurd (omega arith)
-  last (Refused r p) k es same = absurd (let z : _≡_ {A = ℕ} 0 1 = cc in omega arith)
-  last End k es same =
+  last (Play e p) none es same = absurd none
+  last (Refused r p) none es same = absurd (let z : _≡_ {A = ℕ} 0 1 = cc in omega arith)
+  last End none es same =
       let m = made d₀ 0 es in
       let e : added t A R (made (t .device) (t .clocks) []) ≡ added (tally d₀ 0 0 0) A₀ R₀ m = cc in
       (λ i. result (success (t .device) (sym (add-zero (t .answers)) i) (sym (add-zero (t .openings)) i) (t .clocks)) A R)
       ∙ e
       ∙ (λ i. result (success (m .device) (zero-add (length (m .answers)) i) (zero-add (length (m .openings)) i) (m .clocks)) (sets A₀ 0 (m .answers)) (sets R₀ 0 (m .openings)))
 
-  pub finished : (x : Next) → x ≡ nextAt s at → (tagOf the-type x ≡ 1) ⊎ (tagOf the-type x ≡ 2) → (es : List Event) → parsed s ≡ events es
+  pub finished : NoEvent (nextAt s at) → (es : List Event) → parsed s ≡ events es
       → result (success (t .device) (t .answers) (t .openings) (t .clocks)) A R ≡ stored (made d₀ 0 es) A₀ R₀
-  finished x h k es e =
-      last x k es (ap (endingOf t A R) (sym (rest-reads s at x (sym h))) ∙ reached .same ∙ ap (endingOf (tally d₀ 0 0 0) A₀ R₀) e)
+  finished none es e =
+      last (nextAt s at) none es (ap (endingOf t A R) (sym (rest-reads s at (nextAt s at) refl)) ∙ reached .same ∙ ap (endingOf (tally d₀ 0 0 0) A₀ R₀) e)

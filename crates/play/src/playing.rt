@@ -1,8 +1,9 @@
 // The whole call.
 use crate::running::run;
 use device::Device;
-use survey::Surveyed;
-use survey::survey;
+use survey::Checked;
+use survey::check;
+use survey::count_openings;
 ghost use mathlib.Core.Path.{_≡_};
 ghost use Rattle.play.specs.Play.{refusedOutcome, Plays};
 
@@ -30,25 +31,28 @@ fn refused(refusal: u8, place: usize, device: Device) -> Outcome
     }
 }
 
-// Plays a list on a device: one pass over the list to refuse it or to know what room it needs, and one to play it. A refused call
-// writes nothing lent.
+// Plays a list on a device: a pass over the list to refuse it or to know what room it needs, a second where only the openings tell whether
+// the row is long enough, and one to play it. A refused call writes nothing lent.
 pub fn play(list: &[u8], device: Device, answers: &mut [u8], openings: &mut [u32]) -> Outcome
     ensures { λ r. ⌜ Plays (now (list .entry)) device (now (answers .entry)) (now (openings .entry)) r (now (answers .exit)) (now (openings .exit)) ⌝ }
 {
     if !device.valid() {
         return refused(8, 0, device);
     }
-    let surveyed = survey(list, device);
-    match surveyed {
-        Surveyed::Whole(room) => {
-            if answers.len() < room.answers {
+    let checked = check(list);
+    match checked {
+        Checked::Whole(sums) => {
+            if answers.len() < sums.answers {
                 return refused(6, 0, device);
             }
-            if openings.len() < room.openings {
-                return refused(7, 0, device);
+            // No clock opens twice, and so openings are counted only where there are more clocks than entries.
+            if openings.len() < sums.clocks as usize {
+                if openings.len() < count_openings(list, device) {
+                    return refused(7, 0, device);
+                }
             }
             run(list, device, answers, openings)
         }
-        Surveyed::Refused(number, place) => refused(number, place, device),
+        Checked::Refused(number, place) => refused(number, place, device),
     }
 }

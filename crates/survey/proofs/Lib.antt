@@ -1,2 +1,3 @@
 pub mod FirstPass
+pub mod Sums
 pub mod Unique

@@ -1,9 +1,9 @@
--- A pass that follows the gate alone counts what the whole part answers and opens.
+-- Who follows the gate alone counts what the whole part opens.
 use Prim.Native.Nat.{ℕ, zero, suc, _+_, _≤_}
 use mathlib.Core.Path.{_≡_, refl, sym, ap, _∙_}
 use mathlib.Core.Bool.{Bool, true, false}
-use mathlib.Core.List.{List, [], _∷_, _++_}
-use native.Mathlib.Nat.{add-zero, zero-add}
+use mathlib.Core.List.{List, [], _∷_}
+use native.Mathlib.Nat.{add-zero, zero-add, add-assoc}
 use native.Mathlib.Omega.{arith}
 use lib.ListN.{length, length-append}
 use Rattle.event.specs.declared.Event.{Event}
@@ -11,21 +11,14 @@ use Rattle.event.specs.declared.Event.the-variants.{Write, Read, PortAcknowledg
 use Rattle.port_c.specs.Pins.{tinLevel}
 use Rattle.timer.specs.Running.{clockedTimer, openings as timerOpenings, mark}
 use Rattle.timer.specs.declared.Timer.{Timer}
+use Rattle.clocks.specs.Numbers.{at-most}
 use Rattle.gate.specs.declared.Gate.{Gate}
 use Rattle.wire.specs.List.{Parsed, events, refused, prepend}
-use Rattle.wire.specs.Next.{mostClocks}
 use Rattle.wire.specs.Needs.{clocksIn}
-use Rattle.device.specs.Interrupts.{portAcknowledge, timerAcknowledge}
-use Rattle.device.specs.Events.{Made, effect, made}
+use Rattle.device.specs.Events.{effect, made}
 use Rattle.device.specs.declared.Device.{Device}
 use Rattle.laws.specs.Following.{followed, opensBy, gate-follows, gate-opens}
-use Rattle.survey.specs.Needed.{two-bytes}
-use Rattle.survey.specs.Watching.{watchedClocks, at-most-clocks}
-use Rattle.survey.specs.Survey.{passAt, startPass, followedOf, roomOf, surveyedOf}
-use Rattle.survey.specs.declared.surveying.Room.{Room}
-use Rattle.survey.specs.declared.surveying.Pass.{Pass}
-use Rattle.survey.specs.declared.surveying.Surveyed.{Surveyed}
-use Rattle.survey.specs.declared.surveying.Surveyed.the-variants as surveyed
+use Rattle.survey.specs.Survey.{openedBy}
 
 -- how many of n clocks open, from whichever number they are counted on
 same-many : (level : Bool) (n k j : ℕ) (t : Timer) → length (timerOpenings level n k t) ≡ length (timerOpenings level n j t)
@@ -38,93 +31,58 @@ same-many level (suc n) k j t =
     marked true l m e = ap suc e
     marked false l m e = e
 
--- one event of the part, as a pass counts it
-abbrev after-event : Pass → Made → Pass
-after-event v m = passAt (m .device .gate) (v .room .answers + length (m .answers)) (v .room .openings + length (m .openings))
+-- how often an event opens a gate
+abbrev pub opensAt : Gate → Event → ℕ
+opensAt g e = length (opensBy g 0 e)
 
-same-pass : (g h : Gate) (a b o p : ℕ) → g ≡ h → a ≡ b → o ≡ p → passAt g a o ≡ passAt h b p
-same-pass g h a b o p e f q = λ i. passAt (e i) (f i) (q i)
+opens-at : (g : Gate) (k : ℕ) (e : Event) → length (opensBy g k e) ≡ opensAt g e
+opens-at g k (Write r v) = refl
+opens-at g k (Read r) = refl
+opens-at g k PortAcknowledge = refl
+opens-at g k TimerAcknowledge = refl
+opens-at g k (Pin n level) = refl
+opens-at g k (Clocks n) = same-many (tinLevel (g .c)) n k 0 (g .timer)
+opens-at g k Reset = refl
 
--- what a pass counts of an event at a gate
-pub followed-pass : (v : Pass) (k : ℕ) (e : Event) → followedOf v e ≡ passAt (followed (v .gate) e) (followedOf v e .room .answers) (v .room .openings + length (opensBy (v .gate) k e))
-unfolding watchedClocks
-followed-pass v k (Write r x) = same-pass _ _ _ _ _ _ refl refl (sym (add-zero _))
-followed-pass v k (Read r) = same-pass _ _ _ _ _ _ refl refl (sym (add-zero _))
-followed-pass v k PortAcknowledge = same-pass _ _ _ _ _ _ refl refl (sym (add-zero _))
-followed-pass v k TimerAcknowledge = same-pass _ _ _ _ _ _ refl refl (sym (add-zero _))
-followed-pass v k (Pin n level) = same-pass _ _ _ _ _ _ refl refl (sym (add-zero _))
-followed-pass v k (Clocks n) =
-    same-pass _ _ _ _ _ _ refl refl (ap (λ (m : ℕ). v .room .openings + m) (same-many (tinLevel (v .gate .c)) n 0 k (v .gate .timer)))
-followed-pass v k Reset = same-pass _ _ _ _ _ _ refl refl (sym (add-zero _))
+-- at most once a clock
+pub opens-few : (g : Gate) (e : Event) → opensAt g e ≤ clocksIn e
+opens-few g (Write r v) = omega arith
+opens-few g (Read r) = omega arith
+opens-few g PortAcknowledge = omega arith
+opens-few g TimerAcknowledge = omega arith
+opens-few g (Pin n level) = omega arith
+opens-few g (Clocks n) = at-most (tinLevel (g .c)) n 0 (g .timer)
+opens-few g Reset = omega arith
 
--- two answer bytes for each read and each acknowledge
-answers-follow : (v : Pass) (d : Device) (k : ℕ) (e : Event) → followedOf v e .room .answers ≡ v .room .answers + length (effect d k e .answers)
-unfolding effect
-answers-follow v d k (Write r x) = sym (add-zero _)
-answers-follow v d k (Read r) = refl
-answers-follow v d k PortAcknowledge = ap (λ (n : ℕ). v .room .answers + n) (sym (two-bytes (portAcknowledge d)))
-answers-follow v d k TimerAcknowledge = ap (λ (n : ℕ). v .room .answers + n) (sym (two-bytes (timerAcknowledge d)))
-answers-follow v d k (Pin n level) = sym (add-zero _)
-answers-follow v d k (Clocks n) = sym (add-zero _)
-answers-follow v d k Reset = sym (add-zero _)
+-- how often events in turn open it
+unfoldable pub openedFrom : Gate → List Event → ℕ
+openedFrom g [] = 0
+openedFrom g (e ∷ es) = opensAt g e + openedFrom (followed g e) es
 
--- A pass at the gate of a device follows it through every event.
-pub follows : (v : Pass) (d : Device) (k : ℕ) (e : Event) → v .gate ≡ d .gate → followedOf v e ≡ after-event v (effect d k e)
-follows v d k e g =
-    followed-pass v k e
-    ∙ same-pass _ _ _ _ _ _
-    (ap (λ (x : Gate). followed x e) g ∙ sym (gate-follows d k e))
-    (answers-follow v d k e)
-    (ap (λ (x : Gate). v .room .openings + length (opensBy x k e)) g ∙ ap (λ (l : List ℕ). v .room .openings + length l) (sym (gate-opens d k e)))
-
--- events in turn
-unfoldable pub followedAll : Pass → List Event → Pass
-followedAll v [] = v
-followedAll v (e ∷ es) = followedAll (followedOf v e) es
-
--- A pass that stands at the gate of a device counts the room that its events need on that device.
-abbrev with-room : Room → Room → Room
-with-room x y = record { answers = x .answers + y .answers; openings = x .openings + y .openings }
-
-counts : (es : List Event) (v : Pass) (d : Device) (k : ℕ) → v .gate ≡ d .gate → followedAll v es .room ≡ with-room (v .room) (roomOf (made d k es))
-unfolding followedAll made
-counts [] v d k g = λ i. record { answers = sym (add-zero (v .room .answers)) i; openings = sym (add-zero (v .room .openings)) i }
-counts (e ∷ es) v d k g =
+counts : (es : List Event) (d : Device) (k : ℕ) → length (made d k es .openings) ≡ openedFrom (d .gate) es
+unfolding openedFrom made
+counts [] d k = refl
+counts (e ∷ es) d k =
     let m = effect d k e in
-    let f = follows v d k e g in
     let r = made (m .device) (m .clocks) es in
-    let a : (n : ℕ) (x y : List ℕ) → n + length x + length y ≡ n + length (x ++ y) = λ n x y. omega (arith, length-append x y) in
-    counts es (followedOf v e) (m .device) (m .clocks) (ap (λ (x : Pass). x .gate) f)
-    ∙ ap (λ (x : Pass). with-room (x .room) (roomOf r)) f
-    ∙ (λ i. record { answers = a (v .room .answers) (m .answers) (r .answers) i; openings = a (v .room .openings) (m .openings) (r .openings) i })
+    let first : length (m .openings) ≡ opensAt (d .gate) e = ap length (gate-opens d k e) ∙ opens-at (d .gate) k e in
+    let then : length (r .openings) ≡ openedFrom (followed (d .gate) e) es = counts es (m .device) (m .clocks) ∙ ap (λ (g : Gate). openedFrom g es) (gate-follows d k e) in
+    length-append (m .openings) (r .openings) ∙ rw (first, then) refl
 
--- what a pass that came so far makes of what is left
-abbrev pub goingOn : Pass → Parsed → Surveyed
-goingOn v (events es) = surveyed.Whole (followedAll v es .room)
-goingOn v (refused r p) = surveyed.Refused r p
+-- what who counted so many makes of what is left
+abbrev pub goingOn : Gate → ℕ → Parsed → ℕ
+goingOn g n (events es) = n + openedFrom g es
+goingOn g n (refused r p) = 0
 
-pub from-start : (d : Device) (P : Parsed) → goingOn (startPass d) P ≡ surveyedOf d P
-from-start d (events es) =
-    let m = made d 0 es in
-    ap surveyed.Whole
-    (counts es (startPass d) d 0 refl ∙ (λ i. record { answers = zero-add (length (m .answers)) i; openings = zero-add (length (m .openings)) i }))
+pub from-start : (d : Device) (P : Parsed) → goingOn (d .gate) 0 P ≡ openedBy d P
+from-start d (events es) = zero-add (openedFrom (d .gate) es) ∙ sym (counts es d 0)
 from-start d (refused r p) = refl
 
-pub event-first : (v : Pass) (e : Event) (P : Parsed) → goingOn v (prepend e P) ≡ goingOn (followedOf v e) P
-unfolding followedAll
-event-first v e (events es) = refl
-event-first v e (refused r p) = refl
+pub event-first : (g : Gate) (n : ℕ) (e : Event) (P : Parsed) → goingOn (followed g e) (n + opensAt g e) P ≡ goingOn g n (prepend e P)
+unfolding openedFrom
+event-first g n e (events es) = add-assoc n (opensAt g e) (openedFrom (followed g e) es)
+event-first g n e (refused r p) = refl
 
--- an event needs at most two answer bytes, and as many entries as it can be clocks
-pub record Few (v w : Pass) : Type 0 where
-  pub answers : w .room .answers ≤ v .room .answers + 2
-  pub openings : w .room .openings ≤ v .room .openings + mostClocks
-
-pub few : (v : Pass) (e : Event) → clocksIn e ≤ mostClocks → Few v (followedOf v e)
-few v (Write r x) h = record { answers = omega arith; openings = omega arith }
-few v (Read r) h = record { answers = omega arith; openings = omega arith }
-few v PortAcknowledge h = record { answers = omega arith; openings = omega arith }
-few v TimerAcknowledge h = record { answers = omega arith; openings = omega arith }
-few v (Pin n level) h = record { answers = omega arith; openings = omega arith }
-few v (Clocks n) h = record { answers = omega arith; openings = omega (arith, at-most-clocks (v .gate) n) }
-few v Reset h = record { answers = omega arith; openings = omega arith }
+pub at-end : (g : Gate) (n : ℕ) → n ≡ goingOn g n (events [])
+unfolding openedFrom
+at-end g n = sym (add-zero n)

@@ -1,3 +1,4 @@
+pub mod Check
 pub mod Needed
 pub mod Watching
 pub mod Survey

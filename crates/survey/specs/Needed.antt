@@ -66,3 +66,12 @@ event-openings d k TimerAcknowledge = omega arith
 event-openings d k (Pin n l) = omega arith
 event-openings d k (Clocks n) = at-most n k d
 event-openings d k Reset = omega arith
+
+-- and so events have at most as many openings as clocks
+pub openings-few : (d : Device) (k : ℕ) (es : List Event) → length (made d k es .openings) ≤ needsOf es .clocks
+unfolding made needsOf
+openings-few d k [] = omega arith
+openings-few d k (e ∷ es) =
+    let m = effect d k e in
+    let r = made (m .device) (m .clocks) es in
+    omega (arith, length-append (m .openings) (r .openings), event-openings d k e, openings-few (m .device) (m .clocks) es)

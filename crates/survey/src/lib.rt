@@ -1,7 +1,8 @@
-// A first pass over a list for a device: its refusal, or the room that playing it needs (01, 'The event list').
-mod surveying;
+// What a list asks for, found before it is played (01, 'The event list'): its refusal or its needs by itself, and its openings on a device.
+mod checking;
+mod counting;
 mod watching;
 
-pub use surveying::Room;
-pub use surveying::Surveyed;
-pub use surveying::survey;
+pub use checking::Checked;
+pub use checking::check;
+pub use counting::count_openings;

@@ -1,4 +1,4 @@
-// What opens the gate: the timer, and port C whose PC2 may carry TIN (01, 'Timer'). A first pass over a list follows this alone.
+// What opens the gate: the timer, and port C whose PC2 may carry TIN (01, 'Timer'). Who counts openings follows this alone.
 mod clocking;
 mod fresh;
 mod pins;

@@ -9,6 +9,7 @@ use timer::control::clock_steps;
 
 // n clocks make fewer counts than lower the counter to zero, or none from a prescaler past 31; or they are no source steps, and take no
 // held rise.
+#[tactic(auto, unfolding(crate::specs::Quiet::quiet_clocks))]
 pub fn quiet(timer: Timer, tin: bool, n: u32) -> bool
     ensures { result ≡ quiet_clocks tin n timer }
 {
@@ -20,6 +21,7 @@ pub fn quiet(timer: Timer, tin: bool, n: u32) -> bool
 }
 
 // The timer after n such clocks: its counter lower by their counts, where they are source steps.
+#[tactic(auto, unfolding(crate::specs::Quiet::passed_clocks))]
 pub fn passed(mut timer: Timer, tin: bool, n: u32) -> Timer
     ensures { result ≡ passed_clocks tin n timer }
 {

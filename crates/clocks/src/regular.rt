@@ -14,6 +14,7 @@ use timer::{ClockNumber, Timer};
 const ROLL: u64 = 0x1000000;
 
 // Openings come at regular clocks: a load that is due is not one of zero, and a count at zero leads on to more than zero.
+#[tactic(auto, unfolding(crate::specs::Regular::regular_of))]
 pub fn regular(timer: Timer) -> bool
     ensures { result ≡ regular_of timer }
 {
@@ -24,6 +25,7 @@ pub fn regular(timer: Timer) -> bool
 }
 
 // The counts from one opening to the next: one that reloads or rolls, and as many as then lower the counter to zero.
+#[tactic(auto, unfolding(crate::specs::Regular::counts_between))]
 fn counts_between(timer: Timer) -> u64
     ensures { result ≡ counts_between timer }
 {
@@ -34,6 +36,7 @@ fn counts_between(timer: Timer) -> u64
 }
 
 // The counts before the first that opens.
+#[tactic(auto, unfolding(crate::specs::Regular::counts_before))]
 fn counts_before(timer: Timer) -> u64
     ensures { result ≡ counts_before timer }
 {
@@ -47,6 +50,7 @@ fn counts_before(timer: Timer) -> u64
 }
 
 // The clocks to the first opening, its own among them.
+#[tactic(auto, unfolding(crate::specs::Regular::clocks_to, crate::specs::Steps::steps_to))]
 fn clocks_to(timer: Timer) -> u64
     ensures { result ≡ clocks_to timer }
 {
@@ -54,6 +58,7 @@ fn clocks_to(timer: Timer) -> u64
 }
 
 // The clocks from one opening to the next.
+#[tactic(auto, unfolding(crate::specs::Regular::period_of))]
 fn period(timer: Timer) -> u64
     ensures { result ≡ period_of timer }
 {
@@ -61,6 +66,7 @@ fn period(timer: Timer) -> u64
 }
 
 // How many of n clocks open.
+#[tactic(auto, unfolding(crate::specs::Regular::opened_in))]
 pub fn opened(timer: Timer, n: u32) -> usize
     ensures { result ≡ opened_in timer n }
 {
@@ -72,6 +78,7 @@ pub fn opened(timer: Timer, n: u32) -> usize
 }
 
 // The timer after n clocks: before the first opening, or so many turns and a rest after it.
+#[tactic(auto, unfolding(crate::specs::Regular::gone_on, crate::specs::Regular::since_of, crate::specs::Regular::square_after))]
 pub fn gone_on(mut timer: Timer, n: u32) -> Timer
     ensures { result ≡ gone_on timer n }
 {

@@ -9,6 +9,7 @@ use timer::control::clock_steps;
 use timer::{ClockNumber, Timer};
 
 // n clocks, at least one, are no source steps, and the first takes a held rise.
+#[tactic(auto, unfolding(crate::specs::Rises::rises_first))]
 pub fn rises(timer: Timer, tin: bool, n: u32) -> bool
     ensures { result ≡ rises_first tin n timer }
 {

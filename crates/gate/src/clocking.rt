@@ -11,6 +11,7 @@ use timer::control::clock_steps;
 
 impl Gate {
     // One clock.
+    #[tactic(auto, unfolding(crate::specs::Clocking::clocked_gate))]
     pub fn clock(mut self) -> Gated
         ensures { result ≡ clocked_gate self }
     {
@@ -25,6 +26,7 @@ impl Gate {
 
     // n clocks, after those that have passed, at once. The number of each that opens goes into the row from place `at` on, as far
     // as the row has room. A timer that they do not step, and that holds no rise for them, stands.
+    #[tactic(auto, unfolding(crate::specs::Clocking::gate_run, clocks::specs::Clocks::clocks_of))]
     pub fn clocks(mut self, n: u32, passed: ClockNumber, row: &mut [u32], at: usize) -> GateRun
         ensures counted { result ≡ gate_run n passed.0 self }
         ensures numbered { row.new ≡ sets row.old at (map clock_number (gate_openings n passed.0 self)) }
@@ -47,6 +49,7 @@ impl Gate {
     }
 
     // n clocks open nothing, and only lower the counter.
+    #[tactic(auto, unfolding(crate::specs::Ahead::quiet_gate))]
     pub fn quiet(self, n: u32) -> bool
         ensures { result ≡ quiet_gate n self }
     {
@@ -54,6 +57,7 @@ impl Gate {
     }
 
     // The gate after n such clocks.
+    #[tactic(auto, unfolding(crate::specs::Ahead::passed_gate))]
     pub fn passed(mut self, n: u32) -> Gate
         ensures { result ≡ passed_gate n self }
     {
@@ -62,6 +66,7 @@ impl Gate {
     }
 
     // n clocks, at least one, are no source steps, and the first takes a held rise.
+    #[tactic(auto, unfolding(crate::specs::Ahead::rises_gate))]
     pub fn rises(self, n: u32) -> bool
         ensures { result ≡ rises_gate n self }
     {
@@ -70,6 +75,7 @@ impl Gate {
 
     // The gate after such clocks, and how many opened it: the first or none. Its number goes into the row at place `at`, as far as the
     // row has room.
+    #[tactic(auto, unfolding(crate::specs::Ahead::risen_gate, crate::specs::Ahead::moments_risen))]
     pub fn risen(mut self, passed: ClockNumber, row: &mut [u32], at: usize) -> GateRun
         ensures counted { result ≡ risen_gate self }
         ensures numbered { row.new ≡ sets row.old at (map clock_number (moments_risen passed.0 self)) }
@@ -84,6 +90,7 @@ impl Gate {
     }
 
     // Clocks are source steps, and open at regular clocks.
+    #[tactic(auto, unfolding(crate::specs::Ahead::regular_gate))]
     pub fn regular(self) -> bool
         ensures { result ≡ regular_gate self }
     {
@@ -91,6 +98,7 @@ impl Gate {
     }
 
     // How many of n such clocks open.
+    #[tactic(auto, unfolding(crate::specs::Ahead::opened_gate))]
     pub fn opened(self, n: u32) -> usize
         ensures { result ≡ opened_gate n self }
     {
@@ -98,6 +106,7 @@ impl Gate {
     }
 
     // The gate after them.
+    #[tactic(auto, unfolding(crate::specs::Ahead::gone_gate))]
     pub fn gone_on(mut self, n: u32) -> Gate
         ensures { result ≡ gone_gate n self }
     {
@@ -106,6 +115,7 @@ impl Gate {
     }
 
     // The numbers of those that open go into the row from place `at` on, as far as the row has room.
+    #[tactic(auto, unfolding(crate::specs::Ahead::moments_gate))]
     pub fn list(self, n: u32, passed: ClockNumber, row: &mut [u32], at: usize)
         ensures { row.new ≡ sets row.old at (map clock_number (moments_gate n passed.0 self)) }
     {

@@ -7,6 +7,7 @@ use port_c::PortC;
 use timer::Timer;
 
 impl Gate {
+    #[tactic(auto, unfolding(crate::specs::Fresh::fresh_gate))]
     pub fn fresh() -> Gate
         ensures { result ≡ fresh_gate }
     {
@@ -16,6 +17,7 @@ impl Gate {
     }
 
     // Preload, counter, port C's latch and its outside levels are kept.
+    #[tactic(auto, unfolding(crate::specs::Fresh::reset_gate))]
     pub fn reset(mut self) -> Gate
         ensures { result ≡ reset_gate self }
     {

@@ -1,4 +1,5 @@
 // What opens the gate: the timer, and port C whose PC2 may carry TIN (01, 'Timer'). Who counts openings follows this alone.
+#![tactic(auto)]
 mod clocking;
 mod fresh;
 mod pins;
@@ -9,21 +10,21 @@ use port_c::PortC;
 use timer::Timer;
 
 // The timer and port C.
-#[derive(Drop)]
+#[derive(Clone, Copy)]
 pub struct Gate {
     pub timer: Timer,
     pub c: PortC,
 }
 
 // The gate after a clock, and whether that opened it.
-#[derive(Drop)]
+#[derive(Clone, Copy)]
 pub struct Gated {
     pub gate: Gate,
     pub opened: bool,
 }
 
 // The gate after many clocks, and how many of them opened it.
-#[derive(Drop)]
+#[derive(Clone, Copy)]
 pub struct GateRun {
     pub gate: Gate,
     pub used: usize,

@@ -8,6 +8,7 @@ use port_c::PortC;
 
 impl Gate {
     // A level comes to PC2, where TIN may be.
+    #[tactic(auto, unfolding(crate::specs::Pins::tin_event))]
     fn tin_event(mut self, level: bool) -> Gate
         ensures { result ≡ tin_event self level }
     {
@@ -18,6 +19,7 @@ impl Gate {
     }
 
     // A level comes to line n of port C.
+    #[tactic(auto, unfolding(crate::specs::Pins::line_event))]
     pub fn line(mut self, n: u8, level: bool) -> Gate
         ensures { result ≡ line_event self n level }
     {
@@ -30,6 +32,7 @@ impl Gate {
     }
 
     // A level comes to any pin, as far as it concerns the gate.
+    #[tactic(auto, unfolding(crate::specs::Pins::gate_pinned))]
     pub fn pin(self, pin: u8, level: bool) -> Gate
         ensures { result ≡ gate_pinned self pin level }
     {

@@ -6,6 +6,7 @@ use crate::Gate;
 use event::map;
 
 impl Gate {
+    #[tactic(auto, unfolding(crate::specs::Registers::write_tcr))]
     pub fn write_tcr(mut self, v: u8) -> Gate
         ensures { result ≡ write_tcr self v }
     {
@@ -14,6 +15,7 @@ impl Gate {
     }
 
     // A byte of the preload, 0 its high one.
+    #[tactic(auto, unfolding(crate::specs::Registers::write_preload))]
     pub fn write_preload(mut self, place: u8, v: u8) -> Gate
         ensures { result ≡ write_preload self place v }
     {
@@ -21,6 +23,7 @@ impl Gate {
         self
     }
 
+    #[tactic(auto, unfolding(crate::specs::Registers::write_tsr))]
     pub fn write_tsr(mut self, v: u8) -> Gate
         ensures { result ≡ write_tsr self v }
     {
@@ -29,6 +32,7 @@ impl Gate {
     }
 
     // A write of any register, as far as it concerns the gate.
+    #[tactic(auto, unfolding(crate::specs::Registers::gate_written))]
     pub fn write(mut self, register: u8, v: u8) -> Gate
         ensures { result ≡ gate_written self register v }
     {

@@ -6,6 +6,7 @@ use crate::Gate;
 
 impl Gate {
     // A sound timer, with TIN at its level.
+    #[tactic(auto, unfolding(crate::specs::Validity::sound_gate))]
     pub fn sound(self) -> bool
         ensures { result ≡ sound_gate self }
     {

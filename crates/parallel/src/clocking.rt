@@ -7,6 +7,7 @@ use port::Pair;
 
 impl Parallel {
     // One clock.
+    #[tactic(auto, unfolding(crate::specs::Clocking::clocked_parallel))]
     pub fn clock(mut self) -> Parallel
         ensures { result ≡ clocked_parallel self }
     {
@@ -18,6 +19,7 @@ impl Parallel {
     }
 
     // n clocks at once. Where neither handshake waits or pulses they change nothing.
+    #[tactic(auto, unfolding(crate::specs::Clocking::clocks_of))]
     pub fn clocks(mut self, n: u32) -> Parallel
         ensures { result ≡ clocks_of n self }
     {

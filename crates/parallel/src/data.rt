@@ -8,6 +8,7 @@ use port::control::inputs;
 
 impl Parallel {
     // The byte that a read of the data register of a pair's own port gives.
+    #[tactic(auto, unfolding(crate::specs::Data::read_data))]
     pub fn byte(self, pair: Pair) -> u8
         ensures { result ≡ (read_data self pair).byte }
     {

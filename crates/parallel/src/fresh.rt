@@ -7,6 +7,7 @@ use port::{Link, Port};
 
 impl Parallel {
     // Every register zero, except PIVR 0F.
+    #[tactic(auto, unfolding(crate::specs::Fresh::fresh_parallel))]
     pub fn fresh() -> Parallel
         ensures { result ≡ fresh_parallel }
     {
@@ -26,6 +27,7 @@ impl Parallel {
     }
 
     // Data latches, the last byte read and outside levels are kept.
+    #[tactic(auto, unfolding(crate::specs::Fresh::reset_of))]
     pub fn reset(mut self) -> Parallel
         ensures { result ≡ reset_of self }
     {

@@ -11,6 +11,7 @@ use port::Pair;
 
 impl Parallel {
     // H1S or H3S.
+    #[tactic(auto, unfolding(crate::specs::Interrupts::first_status_of))]
     fn first_status(self, pair: Pair) -> bool
         ensures { result ≡ first_status_of self pair }
     {
@@ -19,6 +20,7 @@ impl Parallel {
     }
 
     // H2S or H4S.
+    #[tactic(auto, unfolding(crate::specs::Interrupts::second_status_of))]
     fn second_status(self, pair: Pair) -> bool
         ensures { result ≡ second_status_of self pair }
     {
@@ -27,6 +29,7 @@ impl Parallel {
     }
 
     // H1S to H4S.
+    #[tactic(auto, unfolding(crate::specs::Interrupts::statuses_of))]
     fn statuses(self) -> Flags
         ensures { result ≡ statuses_of self }
     {
@@ -39,6 +42,7 @@ impl Parallel {
     }
 
     // PSR.
+    #[tactic(auto, unfolding(crate::specs::Interrupts::psr_of))]
     pub fn psr(self) -> u8
         ensures { result ≡ psr_of self }
     {
@@ -56,6 +60,7 @@ impl Parallel {
     }
 
     // The statuses that are set and enabled.
+    #[tactic(auto, unfolding(crate::specs::Interrupts::enabled_of))]
     fn enabled(self) -> Flags
         ensures { result ≡ enabled_of self }
     {
@@ -64,6 +69,7 @@ impl Parallel {
     }
 
     // An enabled status is set.
+    #[tactic(auto, unfolding(crate::specs::Interrupts::enabled_of))]
     pub fn requests(self) -> bool
         ensures { result ≡ any_of (enabled_of self) }
     {
@@ -71,6 +77,7 @@ impl Parallel {
     }
 
     // A port acknowledge, which changes nothing.
+    #[tactic(auto, unfolding(crate::specs::Interrupts::port_acknowledge))]
     pub fn acknowledge(self) -> Answer
         ensures { result ≡ port_acknowledge self }
     {

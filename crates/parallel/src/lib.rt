@@ -1,5 +1,6 @@
 // Ports A and B with their handshake pairs, and the port interrupts (01, 'Registers', 'Mode 0', 'Interrupts'): their state here, the
 // rules in the modules.
+#![tactic(auto)]
 pub mod clocking;
 pub mod data;
 pub mod fresh;
@@ -12,7 +13,7 @@ pub mod validity;
 use port::{Link, Port};
 
 // The registers that concern both ports, the ports and the pairs.
-#[derive(Drop)]
+#[derive(Clone, Copy)]
 pub struct Parallel {
     pub pgcr: u8,
     pub psrr: u8,
@@ -35,7 +36,7 @@ impl Parallel {
 }
 
 // Ports and pairs after a data read, and the byte read: what the definition of a data read hands back. The code gives each by itself.
-#[derive(Drop)]
+#[derive(Clone, Copy)]
 pub struct DataRead {
     pub parallel: Parallel,
     pub byte: u8,

@@ -8,6 +8,7 @@ use port::{Buffer, Link, Pair, Port, Rules};
 
 impl Parallel {
     // A pair.
+    #[tactic(auto, unfolding(crate::specs::Parts::link_of))]
     pub(crate) fn link(self, pair: Pair) -> Link
         ensures { result ≡ link_of self pair }
     {
@@ -20,6 +21,7 @@ impl Parallel {
     }
 
     // Another pair in its place.
+    #[tactic(auto, unfolding(crate::specs::Parts::with_link))]
     pub(crate) fn with_link(mut self, pair: Pair, link: Link) -> Parallel
         ensures { result ≡ with_link self pair link }
     {
@@ -44,6 +46,7 @@ impl Parallel {
     }
 
     // A pair's own port: A of H1 and H2, B of H3 and H4.
+    #[tactic(auto, unfolding(crate::specs::Parts::own_port))]
     pub(crate) fn own(self, pair: Pair) -> Port
         ensures { result ≡ own_port self pair }
     {
@@ -68,6 +71,7 @@ impl Parallel {
     }
 
     // Others in their place.
+    #[tactic(auto, unfolding(crate::specs::Buffers::with_buffer))]
     pub fn with_buffer(mut self, pair: Pair, buffer: Buffer) -> Parallel
         ensures { result ≡ with_buffer self pair buffer }
     {
@@ -95,6 +99,7 @@ impl Parallel {
     }
 
     // What the registers say of a pair.
+    #[tactic(auto, unfolding(crate::specs::Parts::rules_at))]
     pub fn rules(self, pair: Pair) -> Rules
         ensures { result ≡ rules_at self pair }
     {

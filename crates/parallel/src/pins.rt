@@ -8,6 +8,7 @@ use port::Pair;
 use port::control::{first_sense, second_sense};
 
 // A pin goes from one outside level to another: it comes to be asserted.
+#[tactic(auto, unfolding(crate::specs::Pins::asserts_of))]
 pub fn asserts(old: bool, new: bool, sense: bool) -> bool
     ensures { result ≡ asserts_of old new sense }
 {
@@ -16,6 +17,7 @@ pub fn asserts(old: bool, new: bool, sense: bool) -> bool
 
 impl Parallel {
     // The eight pins of a pair's own port.
+    #[tactic(auto, unfolding(crate::specs::Pins::pins_of))]
     pub fn pins(self, pair: Pair) -> u8
         ensures { result ≡ pins_of self pair }
     {
@@ -34,6 +36,7 @@ impl Parallel {
     }
 
     // An asserted edge of H2 or H4.
+    #[tactic(auto, unfolding(crate::specs::Pins::second_edge))]
     fn second_edge(self, pair: Pair) -> Parallel
         ensures { result ≡ second_edge self pair }
     {
@@ -43,6 +46,7 @@ impl Parallel {
     }
 
     // H1 or H3 at a level.
+    #[tactic(auto, unfolding(crate::specs::Pins::with_first, crate::specs::Parts::with_link, crate::specs::Parts::link_of))]
     pub fn with_first(mut self, pair: Pair, level: bool) -> Parallel
         ensures { result ≡ with_first self pair level }
     {
@@ -58,6 +62,7 @@ impl Parallel {
     }
 
     // H2 or H4 at a level.
+    #[tactic(auto, unfolding(crate::specs::Pins::with_second, crate::specs::Parts::with_link, crate::specs::Parts::link_of))]
     fn with_second(mut self, pair: Pair, level: bool) -> Parallel
         ensures { result ≡ with_second self pair level }
     {
@@ -74,6 +79,7 @@ impl Parallel {
 
     // A level comes to H1 or H3. Each pair has an arm of its own, so that the compiler keeps the edge apart from a level that is none
     // (docs/PERFORMANCE.md).
+    #[tactic(auto, unfolding(crate::specs::Pins::first_pin, crate::specs::Pins::with_first, crate::specs::Parts::with_link, crate::specs::Parts::link_of))]
     pub fn first_pin(mut self, pair: Pair, level: bool) -> Parallel
         ensures { result ≡ first_pin self pair level }
     {
@@ -98,6 +104,7 @@ impl Parallel {
     }
 
     // A level comes to H2 or H4.
+    #[tactic(auto, unfolding(crate::specs::Pins::second_pin))]
     pub fn second_pin(self, pair: Pair, level: bool) -> Parallel
         ensures { result ≡ second_pin self pair level }
     {
@@ -109,6 +116,7 @@ impl Parallel {
     }
 
     // A level comes to any pin, as far as it concerns ports A and B and the pairs.
+    #[tactic(auto, unfolding(crate::specs::Pins::parallel_pinned))]
     pub fn pin(mut self, pin: u8, level: bool) -> Parallel
         ensures { result ≡ parallel_pinned self pin level }
     {
@@ -132,6 +140,7 @@ impl Parallel {
     }
 
     // The level of H2 or H4.
+    #[tactic(auto, unfolding(crate::specs::Pins::second_level))]
     pub fn second_level(self, pair: Pair) -> bool
         ensures { result ≡ second_level self pair }
     {

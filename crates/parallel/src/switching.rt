@@ -6,6 +6,7 @@ use crate::Parallel;
 use port::Pair;
 
 impl Parallel {
+    #[tactic(auto, unfolding(crate::specs::Switching::write_pgcr))]
     pub fn write_pgcr(mut self, v: u8) -> Parallel
         ensures { result ≡ write_pgcr self v }
     {
@@ -16,6 +17,7 @@ impl Parallel {
     }
 
     // PSRR keeps the bits that it has.
+    #[tactic(auto, unfolding(crate::specs::Switching::write_psrr))]
     pub fn write_psrr(mut self, v: u8) -> Parallel
         ensures { result ≡ write_psrr self v }
     {
@@ -24,6 +26,7 @@ impl Parallel {
     }
 
     // PIVR stores the upper six bits and clears the lower two.
+    #[tactic(auto, unfolding(crate::specs::Switching::write_pivr))]
     pub fn write_pivr(mut self, v: u8) -> Parallel
         ensures { result ≡ write_pivr self v }
     {
@@ -32,6 +35,7 @@ impl Parallel {
     }
 
     // PACR or PBCR.
+    #[tactic(auto, unfolding(crate::specs::Switching::write_control))]
     pub fn write_control(self, pair: Pair, v: u8) -> Parallel
         ensures { result ≡ write_control self pair v }
     {
@@ -40,6 +44,7 @@ impl Parallel {
     }
 
     // Ones written to PSR clear edge flags.
+    #[tactic(auto, unfolding(crate::specs::Switching::write_psr))]
     pub fn write_psr(mut self, v: u8) -> Parallel
         ensures { result ≡ write_psr self v }
     {

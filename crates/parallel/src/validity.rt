@@ -7,6 +7,7 @@ use port::Pair;
 
 impl Parallel {
     // PSRR's unused bit clear, PIVR without a lower bit set other than 0F, and sound pairs.
+    #[tactic(auto, unfolding(crate::specs::Validity::sound_of))]
     pub fn sound(self) -> bool
         ensures { result ≡ sound_of self }
     {

@@ -24,6 +24,7 @@ pub(crate) const WRONG_SIZE: u32 = 0xffff_ffff;
 const SILENT: u32 = 0x100;
 
 // What is answered for an acknowledge.
+#[tactic(auto, unfolding(crate::specs::Calls::answer_number))]
 fn answer_number(answer: Answer) -> u32
     ensures { result ≡ answer_number answer }
 {
@@ -34,6 +35,7 @@ fn answer_number(answer: Answer) -> u32
 }
 
 // The levels shown at the 28 pins, bit n for pin n.
+#[tactic(auto, unfolding(crate::specs::Calls::levels_of, device::specs::Pins::pins_c))]
 fn levels(p: Parallel, gate: Gate) -> u32
     ensures { result ≡ levels_of (record { parallel = p; gate = gate }) }
 {
@@ -84,6 +86,7 @@ fn parallel_pin(device: &mut [u8], pin: u8, level: bool) -> u32
 }
 
 // Makes a fresh device.
+#[tactic(auto, unfolding(crate::specs::Calls::done, crate::specs::Calls::fresh_call))]
 #[unsafe(no_mangle)]
 pub extern "C" fn pit_fresh(device: &mut [u8]) -> u32
     ensures answer { result ≡ done device.old }
@@ -97,6 +100,7 @@ pub extern "C" fn pit_fresh(device: &mut [u8]) -> u32
 }
 
 // Whether the device is not refused with 8.
+#[tactic(auto, unfolding(crate::specs::Calls::valid_answer, device::specs::Validity::valid_of, crate::specs::Layout::device_of))]
 #[unsafe(no_mangle)]
 pub extern "C" fn pit_valid(device: &[u8]) -> u32
     ensures { result ≡ valid_answer device.now }
@@ -108,6 +112,7 @@ pub extern "C" fn pit_valid(device: &[u8]) -> u32
 }
 
 // Writes a register.
+#[tactic(auto, unfolding(crate::specs::Calls::done, crate::specs::Calls::write_call))]
 #[unsafe(no_mangle)]
 pub extern "C" fn pit_write(device: &mut [u8], number: u8, value: u8) -> u32
     ensures answer { result ≡ done device.old }
@@ -127,6 +132,7 @@ pub extern "C" fn pit_write(device: &mut [u8], number: u8, value: u8) -> u32
 }
 
 // Reads a register. Only data A and B change the device.
+#[tactic(auto, unfolding(crate::specs::Calls::read_call, crate::specs::Calls::read_answer))]
 #[unsafe(no_mangle)]
 pub extern "C" fn pit_read(device: &mut [u8], number: u8) -> u32
     ensures answer { result ≡ read_answer device.old number }
@@ -147,6 +153,7 @@ pub extern "C" fn pit_read(device: &mut [u8], number: u8) -> u32
 }
 
 // An outside level comes to a pin.
+#[tactic(auto, unfolding(crate::specs::Calls::done, crate::specs::Calls::pin_call))]
 #[unsafe(no_mangle)]
 pub extern "C" fn pit_pin(device: &mut [u8], pin: u8, level: u8) -> u32
     ensures answer { result ≡ done device.old }
@@ -164,6 +171,7 @@ pub extern "C" fn pit_pin(device: &mut [u8], pin: u8, level: u8) -> u32
 
 // Clocks pass, after those that passed before. The numbers of those that open go into the row, as far as it reaches, and how many
 // there were to `opened`.
+#[tactic(auto, unfolding(crate::specs::Calls::clocks_call, gate::specs::Clocking::gate_run, crate::specs::Layout::device_of, crate::specs::Calls::clocks_row, crate::specs::Calls::clocks_opened, crate::specs::Calls::done))]
 #[unsafe(no_mangle)]
 pub extern "C" fn pit_clocks(
     device: &mut [u8],
@@ -195,6 +203,7 @@ pub extern "C" fn pit_clocks(
 }
 
 // Resets the part.
+#[tactic(auto, unfolding(crate::specs::Calls::done, crate::specs::Calls::reset_call))]
 #[unsafe(no_mangle)]
 pub extern "C" fn pit_reset(device: &mut [u8]) -> u32
     ensures answer { result ≡ done device.old }
@@ -208,6 +217,7 @@ pub extern "C" fn pit_reset(device: &mut [u8]) -> u32
 }
 
 // Acknowledges a port interrupt.
+#[tactic(auto, unfolding(crate::specs::Calls::port_acknowledge_answer, crate::specs::Layout::device_of))]
 #[unsafe(no_mangle)]
 pub extern "C" fn pit_port_acknowledge(device: &[u8]) -> u32
     ensures { result ≡ port_acknowledge_answer device.now }
@@ -219,6 +229,7 @@ pub extern "C" fn pit_port_acknowledge(device: &[u8]) -> u32
 }
 
 // Acknowledges a timer interrupt.
+#[tactic(auto, unfolding(crate::specs::Calls::timer_acknowledge_answer, crate::specs::Layout::device_of))]
 #[unsafe(no_mangle)]
 pub extern "C" fn pit_timer_acknowledge(device: &[u8]) -> u32
     ensures { result ≡ timer_acknowledge_answer device.now }
@@ -230,6 +241,7 @@ pub extern "C" fn pit_timer_acknowledge(device: &[u8]) -> u32
 }
 
 // The levels shown at the 28 pins.
+#[tactic(auto, unfolding(crate::specs::Calls::levels_answer, crate::specs::Layout::device_of))]
 #[unsafe(no_mangle)]
 pub extern "C" fn pit_levels(device: &[u8]) -> u32
     ensures { result ≡ levels_answer device.now }

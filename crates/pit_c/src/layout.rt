@@ -151,6 +151,7 @@ fn parallel_with(l: &[u8], a: Port, b: Port, h12: Link, h34: Link) -> Parallel
 
 // The half of ports and handshakes that bytes stand for. They are read where they are lent: a copy of them, of a length that the
 // compiler does not see, would stay in every call (docs/PERFORMANCE.md).
+#[tactic(auto, unfolding(crate::specs::Layout::parallel_of))]
 pub(crate) fn parallel_of(l: &[u8]) -> Parallel
     requires { length l.now ≡ size }
     ensures { result ≡ parallel_of l.now }
@@ -190,6 +191,7 @@ fn gate_with(l: &[u8], preload: u32, count: u32) -> Gate
 }
 
 // The half of timer and port C that bytes stand for.
+#[tactic(auto, unfolding(crate::specs::Layout::gate_of))]
 pub(crate) fn gate_of(l: &[u8]) -> Gate
     requires { length l.now ≡ size }
     ensures { result ≡ gate_of l.now }
@@ -200,6 +202,7 @@ pub(crate) fn gate_of(l: &[u8]) -> Gate
 }
 
 // The device that bytes stand for.
+#[tactic(auto, unfolding(crate::specs::Layout::device_of))]
 pub(crate) fn device_of(l: &[u8]) -> Device
     requires { length l.now ≡ size }
     ensures { result ≡ device_of l.now }
@@ -211,6 +214,7 @@ pub(crate) fn device_of(l: &[u8]) -> Device
 }
 
 // Puts a device into the bytes that are lent. The compiler stores there at once, without the row between.
+#[tactic(auto, unfolding(crate::specs::Layout::bytes_of))]
 pub(crate) fn put_device(device: Device, bytes: &mut [u8])
     requires { length bytes.old ≡ size }
     ensures { bytes.new ≡ bytes_of device }

@@ -1,4 +1,5 @@
 // The face to C: bytes in, bytes out (include/pit.h).
+#![tactic(auto)]
 pub mod calls;
 mod layout;
 pub mod playing;

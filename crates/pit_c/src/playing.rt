@@ -10,6 +10,7 @@ use play::Outcome;
 const TOTALS: usize = 4;
 
 // Stores a refusal's place, the answer bytes, the openings and the clocks.
+#[tactic(auto, unfolding(crate::specs::Playing::totals_of))]
 fn put_totals(outcome: Outcome, totals: &mut [u64])
     requires { length totals.old ≡ totals_count }
     ensures { totals.new ≡ totals_of outcome }

@@ -1,4 +1,5 @@
 // Plays a list from standard input on a fresh device, and prints what came of it (01, 'Lists to try').
+#![tactic(auto)]
 use device::Device;
 use libc::{STDIN_FILENO, STDOUT_FILENO};
 

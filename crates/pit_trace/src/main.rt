@@ -1,4 +1,5 @@
 // Plays a list from standard input on a fresh device, and prints what the part shows after each event.
+#![tactic(auto)]
 use device::Device;
 use event::{Answer, Event};
 use libc::{STDIN_FILENO, STDOUT_FILENO};

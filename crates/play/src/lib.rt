@@ -1,4 +1,5 @@
 // Plays an event list on a device (01, 'The event list').
+#![tactic(auto)]
 mod playing;
 mod running;
 mod storing;

@@ -7,7 +7,7 @@ use device::Device;
 use survey::{Checked, check, count_openings};
 
 // What a call hands back: a refusal, 0 for none, with its place in bits; the totals; the device.
-#[derive(Drop)]
+#[derive(Clone, Copy)]
 pub struct Outcome {
     pub refusal: u8,
     pub place: usize,

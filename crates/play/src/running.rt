@@ -15,6 +15,7 @@ use timer::ClockNumber;
 // Plays the events of a list that was checked: what is no event there is its end. What does not fit the bytes and the row is counted and not
 // stored. The device stands in one place, and each event changes there what it touches: a device, or a half of one, that is handed to a
 // function and back is copied (docs/PERFORMANCE.md).
+#[tactic(auto, unfolding(parallel::specs::Parts::link_of))]
 pub(crate) fn run(list: &[u8], given: Device, answers: &mut [u8], row: &mut [u32]) -> Outcome
     requires { length list.now ≤ most_bytes }
     ensures { Runs list.now given answers.old row.old result answers.new row.new }

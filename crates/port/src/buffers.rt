@@ -7,6 +7,7 @@ use crate::{Buffer, Rules};
 
 impl Buffer {
     // An asserted edge of H1, with what the port's pins show.
+    #[tactic(auto, unfolding(crate::specs::Buffers::buffer_edge))]
     pub fn edge(self, rules: Rules, pins: u8) -> Buffer
         ensures { result ≡ buffer_edge self rules pins }
     {
@@ -19,6 +20,7 @@ impl Buffer {
     }
 
     // A data read.
+    #[tactic(auto, unfolding(crate::specs::Buffers::buffer_read))]
     pub fn read(self, rules: Rules) -> Buffer
         ensures { result ≡ buffer_read self rules }
     {
@@ -33,6 +35,7 @@ impl Buffer {
     }
 
     // A data write.
+    #[tactic(auto, unfolding(crate::specs::Buffers::buffer_written))]
     pub fn written(mut self, rules: Rules, v: u8) -> Buffer
         ensures { result ≡ buffer_written self rules v }
     {

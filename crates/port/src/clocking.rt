@@ -6,6 +6,7 @@ use crate::{Link, Rules};
 
 impl Link {
     // One clock.
+    #[tactic(auto, unfolding(crate::specs::Handshaking::clocked_strobe))]
     pub fn clocked(mut self, rules: Rules) -> Link
         ensures { result ≡ clocked_link self rules }
     {
@@ -15,6 +16,7 @@ impl Link {
     }
 
     // Neither a wait nor a pulse runs: clocks change nothing.
+    #[tactic(auto, unfolding(crate::specs::Clocking::untimed_of))]
     pub fn untimed(self) -> bool
         ensures { result ≡ untimed_of self }
     {
@@ -22,6 +24,7 @@ impl Link {
     }
 
     // n clocks at once.
+    #[tactic(auto, unfolding(crate::specs::Handshaking::strobe_after))]
     pub fn clocks(mut self, rules: Rules, n: u32) -> Link
         ensures { result ≡ clocks_of n self rules }
     {

@@ -6,6 +6,7 @@ use crate::moving::{filled_count, removed_count};
 use crate::{Link, Rules, Way};
 
 // The count after a data read.
+#[tactic(auto, unfolding(crate::specs::Data::read_count))]
 fn read_count(way: Way, held: u8) -> u8
     ensures { result ≡ read_count way held }
 {
@@ -17,6 +18,7 @@ fn read_count(way: Way, held: u8) -> u8
 }
 
 // The count after a data write.
+#[tactic(auto, unfolding(crate::specs::Data::written_count))]
 fn written_count(way: Way, enabled: bool, held: u8) -> u8
     ensures { result ≡ written_count way enabled held }
 {
@@ -29,6 +31,7 @@ fn written_count(way: Way, enabled: bool, held: u8) -> u8
 
 impl Link {
     // Another count; where that makes the pair ready, readiness begins.
+    #[tactic(auto, unfolding(crate::specs::Data::counted_of))]
     fn counted(mut self, rules: Rules, held: u8) -> Link
         ensures { result ≡ counted_of self rules held }
     {
@@ -42,6 +45,7 @@ impl Link {
     }
 
     // A data read.
+    #[tactic(auto, unfolding(crate::specs::Data::read_count, crate::specs::Data::counted_of))]
     pub fn read(self, rules: Rules) -> Link
         ensures { result ≡ read_of self rules }
     {
@@ -50,6 +54,7 @@ impl Link {
     }
 
     // A data write.
+    #[tactic(auto, unfolding(crate::specs::Data::written_count, crate::specs::Data::counted_of))]
     pub fn written(self, rules: Rules) -> Link
         ensures { result ≡ written_of self rules }
     {

@@ -8,6 +8,7 @@ use crate::{Link, Rules};
 
 impl Link {
     // H2 restarted, the elements kept.
+    #[tactic(auto, unfolding(crate::specs::Edges::restarted_of))]
     pub(crate) fn restarted(mut self, rules: Rules) -> Link
         ensures { result ≡ restarted_of self rules }
     {
@@ -17,6 +18,7 @@ impl Link {
     }
 
     // Emptied, edge flags cleared and H2 restarted.
+    #[tactic(auto, unfolding(crate::specs::Edges::flushed_of))]
     pub(crate) fn flushed(mut self, rules: Rules) -> Link
         ensures { result ≡ flushed_of self rules }
     {
@@ -27,6 +29,7 @@ impl Link {
     }
 
     // An asserted edge of H1.
+    #[tactic(auto, unfolding(crate::specs::Edges::first_edge))]
     pub fn first_edge(mut self, rules: Rules) -> Link
         ensures { result ≡ first_edge self rules }
     {
@@ -43,6 +46,7 @@ impl Link {
     }
 
     // An asserted edge of H2.
+    #[tactic(auto, unfolding(crate::specs::Edges::second_edge))]
     pub fn second_edge(mut self, rules: Rules) -> Link
         ensures { result ≡ second_edge self rules }
     {

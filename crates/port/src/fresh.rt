@@ -6,6 +6,7 @@ use crate::{Cells, Link, Port, Strobe};
 
 impl Port {
     // A fresh port: every outside level high.
+    #[tactic(auto, unfolding(crate::specs::Fresh::fresh_port))]
     pub fn fresh() -> Port
         ensures { result ≡ fresh_port }
     {
@@ -23,6 +24,7 @@ impl Port {
     }
 
     // Reset: direction cleared; the latches, the last byte read and the outside levels kept.
+    #[tactic(auto, unfolding(crate::specs::Fresh::reset_port))]
     pub fn reset(mut self) -> Port
         ensures { result ≡ reset_port self }
     {
@@ -46,6 +48,7 @@ impl Strobe {
 
 impl Link {
     // A fresh pair: both outside levels high.
+    #[tactic(auto, unfolding(crate::specs::Fresh::fresh_link))]
     pub fn fresh() -> Link
         ensures { result ≡ fresh_link }
     {
@@ -61,6 +64,7 @@ impl Link {
     }
 
     // Reset: control cleared, nothing held, flags and handshake clear; the outside levels kept.
+    #[tactic(auto, unfolding(crate::specs::Fresh::reset_link))]
     pub fn reset(mut self) -> Link
         ensures { result ≡ reset_link self }
     {

@@ -7,6 +7,7 @@ ghost use Rattle.port.specs.Moving.{stored_of, removed_of, oldest_of, filled_of,
 use crate::{Cells, Way};
 
 // The count after an input element is stored.
+#[tactic(auto, unfolding(crate::specs::Buffering::stored_count))]
 fn stored_count(held: u8) -> u8
     ensures { result ≡ stored_count held }
 {
@@ -17,6 +18,7 @@ fn stored_count(held: u8) -> u8
 }
 
 // The count after one is removed by a read, or taken by an edge.
+#[tactic(auto, unfolding(crate::specs::Buffering::removed_count))]
 pub(crate) fn removed_count(held: u8) -> u8
     ensures { result ≡ removed_count held }
 {
@@ -27,6 +29,7 @@ pub(crate) fn removed_count(held: u8) -> u8
 }
 
 // The count after an output element is written.
+#[tactic(auto, unfolding(crate::specs::Buffering::filled_count))]
 pub(crate) fn filled_count(held: u8) -> u8
     ensures { result ≡ filled_count held }
 {
@@ -40,6 +43,7 @@ pub(crate) fn filled_count(held: u8) -> u8
 }
 
 // The count after an accepted edge.
+#[tactic(auto, unfolding(crate::specs::Moving::moved_count))]
 pub(crate) fn moved_count(way: Way, held: u8) -> u8
     ensures { result ≡ moved_count way held }
 {
@@ -52,6 +56,7 @@ pub(crate) fn moved_count(way: Way, held: u8) -> u8
 
 impl Cells {
     // An input element goes into the first free place.
+    #[tactic(auto, unfolding(crate::specs::Moving::stored_of))]
     fn stored(mut self, held: u8, element: u8) -> Cells
         ensures { result ≡ stored_of held self element }
     {
@@ -64,6 +69,7 @@ impl Cells {
     }
 
     // The oldest input element is removed, and is the last one read.
+    #[tactic(auto, unfolding(crate::specs::Moving::removed_of))]
     fn removed(mut self, held: u8) -> Cells
         ensures { result ≡ removed_of held self }
     {
@@ -76,6 +82,7 @@ impl Cells {
     }
 
     // The oldest input element; the last one read when empty.
+    #[tactic(auto, unfolding(crate::specs::Moving::oldest_of))]
     pub fn oldest(self, held: u8) -> u8
         ensures { result ≡ oldest_of held self }
     {
@@ -86,6 +93,7 @@ impl Cells {
     }
 
     // An output element fills the final latch if empty, else the initial, else is dropped.
+    #[tactic(auto, unfolding(crate::specs::Moving::filled_of))]
     fn filled(mut self, held: u8, element: u8) -> Cells
         ensures { result ≡ filled_of held self element }
     {
@@ -101,6 +109,7 @@ impl Cells {
     }
 
     // The final latch is emptied, and the initial moves up.
+    #[tactic(auto, unfolding(crate::specs::Moving::taken_of))]
     fn taken(mut self, held: u8) -> Cells
         ensures { result ≡ taken_of held self }
     {
@@ -112,6 +121,7 @@ impl Cells {
     }
 
     // What an accepted edge does to these cells.
+    #[tactic(auto, unfolding(crate::specs::Moving::shifted_of))]
     fn shifted(self, way: Way, held: u8, pins: u8) -> Cells
         ensures { result ≡ shifted_of way held self pins }
     {
@@ -123,6 +133,7 @@ impl Cells {
     }
 
     // The same, where the pair moves them.
+    #[tactic(auto, unfolding(crate::specs::Moving::moved_of))]
     pub fn moved(self, on: bool, way: Way, held: u8, pins: u8) -> Cells
         ensures { result ≡ moved_of on way held self pins }
     {
@@ -133,6 +144,7 @@ impl Cells {
     }
 
     // What a read does to these cells, where the pair moves them.
+    #[tactic(auto, unfolding(crate::specs::Moving::drawn_of))]
     pub fn drawn(self, on: bool, held: u8) -> Cells
         ensures { result ≡ drawn_of on held self }
     {
@@ -143,6 +155,7 @@ impl Cells {
     }
 
     // What a written output element does to these cells, where the pair moves them.
+    #[tactic(auto, unfolding(crate::specs::Moving::put_of))]
     pub fn put(mut self, on: bool, enabled: bool, held: u8, element: u8) -> Cells
         ensures { result ≡ put_of on enabled held self element }
     {

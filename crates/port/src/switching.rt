@@ -7,6 +7,7 @@ use crate::{Link, Pair, Rules};
 
 impl Link {
     // Readiness begins, where it now holds.
+    #[tactic(auto, unfolding(crate::specs::Switching::begins_of))]
     fn begins(mut self, rules: Rules) -> Link
         ensures { result ≡ begins_of self rules }
     {
@@ -17,6 +18,7 @@ impl Link {
     }
 
     // PGCR is written.
+    #[tactic(auto, unfolding(crate::specs::Switching::pgcr_written))]
     pub fn pgcr_written(self, pair: Pair, old: u8, new: u8) -> Link
         ensures { result ≡ pgcr_written self pair old new }
     {
@@ -33,6 +35,7 @@ impl Link {
     }
 
     // The control register is written.
+    #[tactic(auto, unfolding(crate::specs::Switching::control_written))]
     pub fn control_written(mut self, pair: Pair, pgcr: u8, v: u8) -> Link
         ensures { result ≡ control_written self pair pgcr v }
     {

@@ -6,6 +6,7 @@ use crate::PortC;
 
 impl PortC {
     // A fresh port C: PC2's outside level low, all others high.
+    #[tactic(auto, unfolding(crate::specs::Fresh::fresh_c))]
     pub fn fresh() -> PortC
         ensures { result ≡ fresh_c }
     {
@@ -17,6 +18,7 @@ impl PortC {
     }
 
     // Reset: direction cleared; the latch and the outside levels kept.
+    #[tactic(auto, unfolding(crate::specs::Fresh::reset_c))]
     pub fn reset(mut self) -> PortC
         ensures { result ≡ reset_c self }
     {

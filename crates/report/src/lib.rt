@@ -1,11 +1,13 @@
 // The lines that the programs print (01, 'Lists to try'). A contract can say that a function hands back nothing, and not what it
 // writes: the programs' output is compared with stored files.
+#![tactic(auto)]
 ghost use Rattle.std.specs.Prelude.{◌≡◌};
 ghost use Rattle.report.specs.Digit.{digit_of};
 
 use libc::STDOUT_FILENO;
 
 // The digit of a number below 16, in upper case; of any other number that of its remainder by 16.
+#[tactic(auto, unfolding(crate::specs::Digit::digit_of))]
 pub fn digit(n: u8) -> u8
     ensures { result ≡ digit_of n }
 {

@@ -3,6 +3,7 @@
 // letter and two hexadecimal numbers each: = begins an example on a fresh device, and has its title behind, W writes a register, R reads
 // one, P sets a pin, S strobes H1, L sets port A's outside levels, U makes rises of a pin, C passes clocks, T shows the timer, H port A
 // with its handshake.
+#![tactic(auto)]
 use device::Device;
 use event::Answer;
 use libc::{STDIN_FILENO, STDOUT_FILENO};

@@ -8,14 +8,14 @@ use event::Event;
 use wire::Next;
 
 // What a list asks for: answer bytes, and clocks.
-#[derive(Drop)]
+#[derive(Clone, Copy)]
 pub struct Sums {
     pub answers: usize,
     pub clocks: u32,
 }
 
 // What a list comes to by itself.
-#[derive(Drop)]
+#[derive(Clone, Copy)]
 pub enum Checked {
     // Its end, with what it asks for.
     Whole(Sums),

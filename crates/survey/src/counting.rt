@@ -9,6 +9,7 @@ use event::Event;
 use wire::Next;
 
 // Follows the gate of the device from a list's first bit to its end. A refused list plays nothing, and opens nothing.
+#[tactic(auto, unfolding(crate::specs::Watching::watched_clocks))]
 pub fn count_openings(list: &[u8], device: Device) -> usize
     ensures { result ≡ opened_by device (parsed list.now) }
 {

@@ -9,7 +9,7 @@ use timer::ClockNumber;
 use timer::control::clock_steps;
 
 // The gate after clocks, and how many of them opened it.
-#[derive(Drop)]
+#[derive(Clone, Copy)]
 pub(crate) struct Watched {
     pub gate: Gate,
     pub opened: usize,
@@ -43,6 +43,7 @@ fn watch_rise(mut gate: Gate, tin: bool, n: u32) -> Watched
 }
 
 // n clocks.
+#[tactic(auto, unfolding(crate::specs::Watching::watched_clocks, gate::specs::Clocking::gate_run))]
 pub(crate) fn watch_clocks(gate: Gate, n: u32) -> Watched
     ensures { result ≡ watched_clocks gate n }
 {

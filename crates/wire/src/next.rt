@@ -60,7 +60,7 @@ const LEVEL_MASK: u32 = (1 << LEVEL_BITS) - 1;
 pub(crate) const LAST_PIN: u8 = map::H4;
 
 // What stands at a bit of a list.
-#[derive(Drop)]
+#[derive(Clone, Copy)]
 pub enum Next {
     // An event, and the first bit after it.
     Play(Event, usize),
@@ -71,6 +71,7 @@ pub enum Next {
 }
 
 // How many bits an event of this kind needs, those of the kind with them.
+#[tactic(auto, unfolding(crate::specs::Next::size_of))]
 pub fn size_of(kind: u32) -> usize
     ensures { (result ≡ size_of kind) × (result ≤ kind_bits + clocks_bits) }
 {
@@ -105,6 +106,7 @@ pub(crate) fn level_of(head: u32) -> bool
 }
 
 // A pin event at bit at, head being its head, unless there is no such pin.
+#[tactic(auto, unfolding(crate::specs::Next::pin_or_refusal))]
 fn pin_at(list: &[u8], at: usize, after: usize, head: u32) -> Next
     requires { head ≡ head_at list.now at }
     ensures { result ≡ pin_or_refusal list.now at after }
@@ -117,6 +119,7 @@ fn pin_at(list: &[u8], at: usize, after: usize, head: u32) -> Next
 }
 
 // What follows the end mark: zero bits fill the last byte, and no byte follows.
+#[tactic(auto, unfolding(crate::specs::Next::close_at))]
 fn close(list: &[u8], end: usize) -> Next
     requires { end ≤ most_bits }
     ensures { result ≡ close_at list.now end }
@@ -132,6 +135,7 @@ fn close(list: &[u8], end: usize) -> Next
 }
 
 // What stands at bit at, by its kind, all of it there; after is the first bit after it, and head its head.
+#[tactic(auto, unfolding(crate::specs::Next::event_at))]
 fn event_at(list: &[u8], at: usize, after: usize, kind: u32, head: u32) -> Next
     requires { (at ≤ most_bits) × (after ≤ most_bits) × (kind < 8) × (head ≡ head_at list.now at) }
     ensures { result ≡ event_at list.now at after kind }

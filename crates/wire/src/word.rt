@@ -85,6 +85,7 @@ pub fn word_at(list: &[u8], at: usize) -> u32
 }
 
 // The event of a word.
+#[tactic(auto, unfolding(crate::specs::Word::event_in))]
 pub fn event_of(word: u32) -> Event
     ensures { result ≡ event_in word }
 {

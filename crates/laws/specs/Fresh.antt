@@ -127,16 +127,16 @@ module _ (p : Parallel) (h : Unset p) where
   unfolding write_data sent_by
   data_written pair v = branch Unset (outputs_of (rules_at p pair).way) _ _ (λ _. linked pair _ _ _) (λ _. latched pair v)
 
-  first_edge : (pair : Pair) → Unset (first_edge p pair)
+  first_edge_lem : (pair : Pair) → Unset (first_edge p pair)
   unfolding first_edge
-  first_edge pair = linked pair _ _ _
+  first_edge_lem pair = linked pair _ _ _
 
 module _ (p : Parallel) (h : Unset p) (pair : Pair) (level : Bool) where
   first_level : Unset (first_pin p pair level)
   unfolding first_pin with_first
   first_level =
       branch Unset (asserts_of (link_of p pair).level1 level (first_sense pair p.pgcr)) _ _
-      (λ _. first_edge _ (linked p h pair p.a p.b _) pair)
+      (λ _. first_edge_lem _ (linked p h pair p.a p.b _) pair)
       (λ _. linked p h pair p.a p.b _)
 
   second_level_lem : Unset (second_pin p pair level)

@@ -19,6 +19,7 @@ use Rattle.parallel.specs.Pins.{pins_of}
 use Rattle.parallel.specs.Data.{drawn_by, read_data}
 use Rattle.parallel.specs.declared.Parallel.{Parallel}
 use Rattle.parallel.specs.declared.DataRead.{DataRead}
+use Rattle.device.specs.Parts.{with_parallel}
 use Rattle.device.specs.Registers.{plainly, takes, read_of}
 use Rattle.device.specs.Events.{effect}
 use Rattle.device.specs.declared.Device.{Device}
@@ -77,3 +78,9 @@ pub any_read : (P : Parallel → Type 0) (d : Device) (r : ℕ) → P d.parallel
     → (r ≡ PBDR → P (read_data d.parallel H34).parallel) → P (read_of d r).device.parallel
 unfolding read_of
 any_read P d r h = each P (takes d.parallel) d.parallel r (λ _. h)
+
+-- A read of any register but data A and data B changes nothing.
+pub other_reads : (d : Device) (r : ℕ) → (r ≡ PADR → ⊥) → (r ≡ PBDR → ⊥) → (read_of d r).device ≡ d
+unfolding read_of
+other_reads d r a b =
+    ap (with_parallel d) (any_read (λ p. p ≡ d.parallel) d r refl (λ e. absurd (a e)) (λ e. absurd (b e)))

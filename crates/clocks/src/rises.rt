@@ -18,6 +18,7 @@ pub fn rises(timer: Timer, tin: bool, n: u32) -> bool
 
 // The timer after such clocks, of which the first alone does something, and how many opened. The number of the first goes into the row at
 // place `at`, where it opens and the row has room.
+#[tactic(auto, unfolding(crate::specs::Rises::risen_first, crate::specs::Rises::risen_moments))]
 pub fn risen(timer: Timer, passed: ClockNumber, row: &mut [u32], at: usize) -> Clocked
     ensures counted { result ≡ risen_first timer }
     ensures numbered { row.new ≡ sets row.old at (map clock_number (risen_moments timer passed.0)) }

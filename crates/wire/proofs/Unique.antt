@@ -1,5 +1,5 @@
 -- Each public function's contract, as the check reads it, leaves one possible result (01, 'How strict the contracts are').
-use Rattle.std.proofs.Common.{◌≡◌, sym, ◌∙◌}
+use Rattle.std.proofs.Common.{sym, ◌∙◌}
 use Rattle.bits.proofs.Unique.{OneResult}
 use Rattle.wire.proofs.next.next_event.Reads as next-event-reads
 use Rattle.wire.proofs.next.size_of.Reads as size-of-reads

@@ -1,8 +1,7 @@
 -- What stands at a bit of a list: an event, the end, or a refusal with its number and place.
 -- 01, 'The event list', and rows 1 to 5 of its table of refusals.
-use Rattle.std.specs.Prelude.{◌≡◌, ℕ, ◌+◌, ◌-◌, ◌*◌, ◌/◌, ◌<◌, ◌≤◌, Bool, List, [], ◌∷◌, length, ◌==◌, nat_lt, slice_index_or}
+use Rattle.std.specs.Prelude.{◌≡◌, ℕ, ◌+◌, ◌-◌, ◌*◌, ◌/◌, ◌<◌, ◌≤◌, Bool, List, [], ◌∷◌, length, ◌==◌, nat_lt, slice_index_or, if◌then◌else◌}
 use borrow.Author.Tests.{lt-ltb, le-ltb}
-use Rattle.bits.specs.Choice.{if◌then◌else◌}
 use Rattle.wire.specs.Field.{bits_in, field_at}
 use Rattle.event.specs.Map.{H4}
 use Rattle.event.specs.declared.Event.{Event}

@@ -1,11 +1,11 @@
 -- The word of an event: 32 bits that begin with its own, its kind on top. The first 19 hold any event whole, and the first 16 of these are the head.
-use Rattle.std.specs.Prelude.{◌≡◌, ℕ, zero, suc, ◌+◌, ◌-◌, ◌*◌, ◌/◌, ◌%◌, ◌^◌, ◌<◌, ◌≤◌, Bool, true, false, ◌&&◌, List, [], ◌∷◌, length, ◌==◌, ◌≢◌, nat_lt, slice_index_or}
+use Rattle.std.specs.Prelude.{◌≡◌, ℕ, zero, suc, ◌+◌, ◌-◌, ◌*◌, ◌/◌, ◌%◌, ◌^◌, ◌<◌, ◌≤◌, Bool, true, false, ◌&&◌, List, [], ◌∷◌, length, ◌==◌, ◌≢◌, nat_lt, slice_index_or, if◌then◌else◌}
 use Rattle.std.proofs.Math.Path.{refl, ap, subst}
 use Rattle.std.proofs.Common.{sym, ap₂, ◌∙◌, arith, shr-shr}
 use Rattle.std.proofs.lemmas.Bool.{false≢true}
 use borrow.Author.Tests.{lt-ltb, le-ltb, ltb-true, ltb-false, eq-eqb, eqb-true}
 use Rattle.std.proofs.lemmas.Nat.{shl-shr}
-use Rattle.bits.specs.Choice.{if◌then◌else◌, branch, both_arms, and_left, and_right, both}
+use Rattle.bits.specs.Choice.{branch, both_arms, and_left, and_right, both}
 use Rattle.wire.specs.Field.{bits_in, field_at, field_lt}
 use Rattle.wire.specs.Splitting.{first_bits, last_bits}
 use Rattle.wire.specs.Head.{head_at, head_register, head_value, head_level}

@@ -1,5 +1,6 @@
 // The list format, free of the device that a list is played on (01, 'The event list').
 #![tactic(auto)]
+
 mod field;
 mod next;
 mod word;

@@ -1,8 +1,8 @@
 -- A table: what stands beside a number, or beside several numbers in turn, and what stands for all others.
-use Rattle.std.specs.Prelude.{ℕ, ◌+◌, ◌-◌, ◌≤◌, ◌<◌, ◌≡◌, refl, Bool, true, false, ◌&&◌, List, [], ◌∷◌, eqb, leb, ltb}
+use Rattle.std.specs.Prelude.{ℕ, ◌+◌, ◌-◌, ◌≤◌, ◌<◌, ◌≡◌, refl, Bool, true, false, ◌&&◌, List, [], ◌∷◌, eqb, leb, ltb, if◌then◌else◌}
 use Rattle.std.proofs.Common.{sym, ◌∙◌, eqb-true, leb-true, ltb-true, eq-eqb, ne_eqb, le-leb, lt-ltb}
 use Rattle.std.proofs.lemmas.Bool.{false≢true}
-use Rattle.bits.specs.Choice.{if◌then◌else◌, branch, both_arms, and_left, and_right, both}
+use Rattle.bits.specs.Choice.{branch, both_arms, and_left, and_right, both}
 
 -- one number; or some in turn from a first one on, each by its place among them
 pub data Entry (A : Type 0) : Type 0 where

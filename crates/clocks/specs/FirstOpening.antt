@@ -1,11 +1,11 @@
 -- When a timer whose openings are regular opens first (01, 'Timer').
 use Prim.Native.Nat.{ℕ, zero, suc, ◌+◌, ◌-◌, ◌≤◌, ◌<◌}
-use Rattle.std.specs.Prelude.{Bool, false, not, ◌&&◌, ◌||◌, [], ◌∷◌, ◌≡◌, refl, eqb}
+use Rattle.std.specs.Prelude.{Bool, false, not, ◌&&◌, ◌||◌, [], ◌∷◌, ◌≡◌, refl, eqb, if◌then◌else◌}
 use Rattle.std.proofs.Math.Bool.{true}
 use Rattle.std.proofs.lemmas.Bool.{false≢true, eqb-false, not-true}
 use Rattle.std.proofs.Common.{ap, ◌∙◌, arith, eqb-true}
 use Rattle.std.proofs.Math.Dec.{eqb-suc-zero}
-use Rattle.bits.specs.Choice.{if◌then◌else◌, branch}
+use Rattle.bits.specs.Choice.{branch}
 use Rattle.timer.specs.Control.{rolls_of, clock_steps}
 use Rattle.timer.specs.Counting.{full, greatest, at_zero_of, count_of}
 use Rattle.timer.specs.declared.Timer.{Timer}

@@ -1,13 +1,12 @@
 -- Clocks that open nothing, and change the counter and the prescaler alone (01, 'Timer').
 use Prim.Native.Nat.{ℕ, zero, suc, ◌+◌, ◌-◌, ◌*◌, ◌<◌}
-use Rattle.std.specs.Prelude.{Bool, [], ◌≡◌}
+use Rattle.std.specs.Prelude.{Bool, [], ◌≡◌, if◌then◌else◌}
 use Rattle.std.proofs.Math.Bool.{true, false, not}
 use Rattle.std.proofs.Math.Path.{refl, subst}
 use Rattle.std.proofs.Common.{sym, arith, ltb-true}
 use Rattle.std.proofs.Math.Nat.{sub-zero}
 use Rattle.std.proofs.lemmas.Bool.{not-true}
 use Rattle.std.proofs.Math.Dec.{eqb-suc-zero, ltb}
-use Rattle.bits.specs.Choice.{if◌then◌else◌}
 use Rattle.timer.specs.Control.{clock_steps}
 use Rattle.timer.specs.Counting.{full}
 use Rattle.timer.specs.Parts.{with_count, with_due}

@@ -1,7 +1,6 @@
 -- Openings that come at regular clocks (01, 'Timer': at zero the counter is reloaded or rolls, and later counts lower it again).
-use Rattle.std.specs.Prelude.{ℕ, zero, suc, ◌+◌, ◌-◌, ◌*◌, ◌/◌, ◌%◌, Bool, true, false, not, ◌&&◌, ◌||◌, List, [], ◌∷◌, eqb, ltb}
+use Rattle.std.specs.Prelude.{ℕ, zero, suc, ◌+◌, ◌-◌, ◌*◌, ◌/◌, ◌%◌, Bool, true, false, not, ◌&&◌, ◌||◌, List, [], ◌∷◌, eqb, ltb, if◌then◌else◌}
 use Rattle.std.specs.Bool.{beq}
-use Rattle.bits.specs.Choice.{if◌then◌else◌}
 use Rattle.timer.specs.Control.{rolls_of}
 use Rattle.timer.specs.Counting.{full, greatest}
 use Rattle.timer.specs.Parts.{with_zds, with_square}

@@ -1,10 +1,10 @@
 -- Clocks that are no source steps, and the first of which takes a held rise (02, R-2).
 use Prim.Native.Nat.{ℕ, zero, suc}
-use Rattle.std.specs.Prelude.{Bool, true, false, not, ◌&&◌, List, [], ◌≡◌, eqb, length}
+use Rattle.std.specs.Prelude.{Bool, true, false, not, ◌&&◌, List, [], ◌≡◌, eqb, length, if◌then◌else◌}
 use Rattle.std.proofs.lemmas.Bool.{false≢true, not-true}
 use Rattle.std.proofs.Math.Path.{refl}
 use Rattle.std.proofs.Math.Dec.{eqb-suc-zero}
-use Rattle.bits.specs.Choice.{if◌then◌else◌, and_left, and_right}
+use Rattle.bits.specs.Choice.{and_left, and_right}
 use Rattle.timer.specs.Control.{clock_steps}
 use Rattle.timer.specs.Running.{risen_of, takes_rise, after, openings, mark}
 use Rattle.timer.specs.declared.Timer.{Timer}

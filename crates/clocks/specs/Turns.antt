@@ -1,7 +1,7 @@
 -- What is worked out ahead of regular openings is what single clocks do (01, 'Timer': a long clocks event may be worked out by
 -- arithmetic; it must equal single clocks).
 use Prim.Native.Nat.{ℕ, zero, suc, ◌+◌, ◌-◌, ◌*◌, ◌/◌, ◌%◌, ◌<◌}
-use Rattle.std.specs.Prelude.{Bool, not, [], ◌∷◌, ◌≡◌, eqb, length}
+use Rattle.std.specs.Prelude.{Bool, not, [], ◌∷◌, ◌≡◌, eqb, length, if◌then◌else◌}
 use Rattle.std.proofs.Math.Bool.{true, false}
 use Rattle.std.specs.Bool.{beq}
 use Rattle.std.proofs.Math.Path.{refl}
@@ -9,7 +9,6 @@ use Rattle.std.proofs.Common.{ap, ◌∙◌, suc-mul, add_assoc, add-zero, add_c
 use Rattle.std.proofs.Math.Nat.{zero-add}
 use borrow.Author.Tests.{eq-eqb, ne_eqb, eqb-true, eqb-false, ltb-true, ltb-false}
 use Rattle.std.proofs.Math.Dec.{ltb}
-use Rattle.bits.specs.Choice.{if◌then◌else◌}
 use Rattle.timer.specs.Control.{rolls_of, clock_steps}
 use Rattle.timer.specs.Counting.{full}
 use Rattle.timer.specs.Parts.{with_zds, with_square}

@@ -1,6 +1,5 @@
 -- The register map (01, 'Registers'; 001, register map; 000, 1.3 and section 4), as tables in its order.
-use Rattle.std.specs.Prelude.{ℕ, List, [], ◌∷◌}
-use Rattle.bits.specs.Choice.{if◌then◌else◌}
+use Rattle.std.specs.Prelude.{ℕ, List, [], ◌∷◌, if◌then◌else◌}
 use Rattle.bits.specs.Tables.{Entry, at, from, find}
 use Rattle.event.specs.Map.{PGCR, PSRR, PADDR, PBDDR, PCDDR, PIVR, PACR, PBCR, PADR, PBDR, PAAR, PBAR, PCDR, PSR}
 use Rattle.event.specs.Map.{TCR, TIVR, CPRH, CNTRH, TSR, number_bytes}

@@ -1,6 +1,5 @@
 -- Levels that come to the pins of port C, none of which opens the gate (01, 'Registers', 'Timer'; 02, R-2; 000, 1.2.10).
-use Rattle.std.specs.Prelude.{ℕ, Bool, List, [], ◌∷◌, eqb}
-use Rattle.bits.specs.Choice.{if◌then◌else◌}
+use Rattle.std.specs.Prelude.{ℕ, Bool, List, [], ◌∷◌, eqb, if◌then◌else◌}
 use Rattle.bits.specs.Field.{with_bit}
 use Rattle.bits.specs.Tables.{Entry, from, find}
 use Rattle.event.specs.Map.{PC0, lines}

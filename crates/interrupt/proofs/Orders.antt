@@ -1,7 +1,6 @@
 -- The order of the statuses as PSRR bits 2-0 make it, held to the eight rows that 01 prints (02, R-5; 01, 'Interrupts'; 000, table 4.2).
-use Rattle.std.proofs.Common.{◌≡◌, ℕ, ◌+◌, ◌<◌, eqb, ltb, List, [], ◌∷◌, ◌++◌, refl, lt-ltb, eqb-true}
+use Rattle.std.proofs.Common.{◌≡◌, ℕ, ◌+◌, ◌<◌, eqb, ltb, List, [], ◌∷◌, ◌++◌, refl, lt-ltb, eqb-true, if◌then◌else◌}
 use mathlib.Core.Bool.{beq}
-use Rattle.bits.specs.Choice.{if◌then◌else◌}
 use Rattle.bits.specs.Field.{bit_of}
 use Rattle.bits.specs.Trying.{given, give, any_below_of, ◌and◌}
 use Rattle.interrupt.specs.Priority.{orders, ranked_of}

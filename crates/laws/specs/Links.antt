@@ -1,10 +1,10 @@
 -- What refusal 8 asks of a pair, and that a sound pair stays sound through everything that happens to it (01, refusal 8 and
 -- 'Mode 0'), by trying every pair there can be.
-use Rattle.std.specs.Prelude.{◌≡◌, refl, Bool, true, false, not, ◌&&◌, ◌||◌, List, [], ◌∷◌, ◌↔◌, ℕ, zero, suc, ◌<◌, ◌≤◌, leb, ltb, eqb}
+use Rattle.std.specs.Prelude.{◌≡◌, refl, Bool, true, false, not, ◌&&◌, ◌||◌, List, [], ◌∷◌, ◌↔◌, ℕ, zero, suc, ◌<◌, ◌≤◌, leb, ltb, eqb, if◌then◌else◌}
 use Rattle.std.proofs.Common.{sym, ap, subst, ◌∙◌, true≢false, arith, leb-true, le-leb, eqb-true, eq-eqb, ne_eqb}
 use Rattle.std.specs.Bool.{beq}
 use Rattle.std.proofs.lemmas.Bool.{false≢true, not-true, not-false}
-use Rattle.bits.specs.Choice.{if◌then◌else◌, branch, and_left, and_right, both, either, beq_true}
+use Rattle.bits.specs.Choice.{branch, and_left, and_right, both, either, beq_true}
 use Rattle.bits.specs.Field.{bit_of, field_of}
 use Rattle.bits.specs.Trying.{given, give, Trial, any_bool, any_below_of, ◌and◌}
 use Rattle.port.specs.Buffering.{places, stored_count, removed_count, filled_count}

@@ -1,10 +1,10 @@
 -- Sentences of 01, 'Registers', each a theorem of its own.
-use Rattle.std.specs.Prelude.{◌≡◌, refl, ◌⊎◌, Bool, true, false, not, ◌&&◌, ◌||◌, ℕ, ◌+◌, ◌<◌, ◌≤◌, eqb, ltb, leb}
+use Rattle.std.specs.Prelude.{◌≡◌, refl, ◌⊎◌, Bool, true, false, not, ◌&&◌, ◌||◌, ℕ, ◌+◌, ◌<◌, ◌≤◌, eqb, ltb, leb, if◌then◌else◌}
 use Rattle.std.proofs.Common.{inl, inr, arith, eq-eqb, ne_eqb, leb-true}
 use Rattle.std.specs.Bool.{beq}
 use Rattle.std.proofs.lemmas.Bool.{false≢true, not-true}
 use Rattle.std.specs.Int.Bits.{bit_and}
-use Rattle.bits.specs.Choice.{if◌then◌else◌, branch, and_left, either}
+use Rattle.bits.specs.Choice.{branch, and_left, either}
 use Rattle.bits.specs.Field.{bit_of}
 use Rattle.bits.specs.Tables.{each}
 use Rattle.bits.specs.Trying.{any_bool, any_below_of, ◌and◌}

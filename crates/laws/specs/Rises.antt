@@ -1,7 +1,7 @@
 -- Rises of TIN, each a theorem of its own (02, R-2).
-use Rattle.std.specs.Prelude.{ℕ, suc, ◌≡◌, refl, Bool, true, false, not, ◌&&◌, ◌||◌, []}
+use Rattle.std.specs.Prelude.{ℕ, suc, ◌≡◌, refl, Bool, true, false, not, ◌&&◌, ◌||◌, [], if◌then◌else◌}
 use Rattle.std.proofs.Common.{arith, ltb-true, le-ltb, ne_eqb}
-use Rattle.bits.specs.Choice.{if◌then◌else◌, and-false, both}
+use Rattle.bits.specs.Choice.{and-false, both}
 use Rattle.timer.specs.Control.{source_of, runs_of, by_rises, clock_steps}
 use Rattle.timer.specs.Counting.{quiet, step_of}
 use Rattle.timer.specs.Parts.{with_rise}

@@ -1,7 +1,6 @@
 -- What 01 does not touch stays, in a device that is refused too.
-use Rattle.std.specs.Prelude.{◌≡◌, refl, Bool, true, false, not, ◌&&◌}
+use Rattle.std.specs.Prelude.{◌≡◌, refl, Bool, true, false, not, ◌&&◌, if◌then◌else◌}
 use Rattle.std.proofs.Common.{true≢false}
-use Rattle.bits.specs.Choice.{if◌then◌else◌}
 use Rattle.bits.specs.Field.{bit_of}
 use Rattle.timer.specs.Control.{source_of, runs_of, by_rises}
 use Rattle.timer.specs.Parts.{with_rise}

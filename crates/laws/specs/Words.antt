@@ -1,6 +1,5 @@
 -- Words are bytes place by place: the two-place buffer of pairs of elements is two buffers under one count.
-use Rattle.std.specs.Prelude.{ℕ, ◌≡◌, refl, Bool, true, false, eqb, ltb}
-use Rattle.bits.specs.Choice.{if◌then◌else◌}
+use Rattle.std.specs.Prelude.{ℕ, ◌≡◌, refl, Bool, true, false, eqb, ltb, if◌then◌else◌}
 use Rattle.port.specs.Buffering.{Places, stored_at, removed_at, oldest_at, filled_at, taken_at, latched_at}
 
 abbrev pub zip : {X Y : Type 0} → Places X → Places Y → Places (X × Y)

@@ -1,8 +1,7 @@
 -- What the pins of ports A and B and the handshake pins show, and levels that come to the handshake pins (01, 'Registers', 'Mode 0'; 000,
 -- 1.2.8, 1.2.9, 2.4 and 2.6).
-use Rattle.std.specs.Prelude.{ℕ, Bool, not, ◌&&◌, List, [], ◌∷◌}
+use Rattle.std.specs.Prelude.{ℕ, Bool, not, ◌&&◌, List, [], ◌∷◌, if◌then◌else◌}
 use Rattle.std.specs.Bool.{beq}
-use Rattle.bits.specs.Choice.{if◌then◌else◌}
 use Rattle.bits.specs.Field.{chosen_of, with_bit}
 use Rattle.bits.specs.Tables.{Entry, at, from, find}
 use Rattle.event.specs.Map.{PA0, PB0, H1, H2, H3, H4, lines}

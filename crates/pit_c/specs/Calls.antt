@@ -1,7 +1,6 @@
 -- The functions of include/pit.h: what each answers, and what the bytes that it is lent then hold.
-use Rattle.std.specs.Prelude.{ℕ, Bool, false, not, List, map, eqb, length}
+use Rattle.std.specs.Prelude.{ℕ, Bool, false, not, List, map, eqb, length, if◌then◌else◌}
 use Rattle.std.proofs.lemmas.List.Edits.{sets}
-use Rattle.bits.specs.Choice.{if◌then◌else◌}
 use Rattle.bits.specs.Field.{packed_of}
 use Rattle.clocks.specs.Clocks.{clock_number}
 use Rattle.event.specs.declared.Answer.{Answer}

@@ -1,12 +1,12 @@
 -- Bit n of what `pit_levels` answers is the level shown at pin n (include/pit.h).
-use Rattle.std.specs.Prelude.{ℕ, suc, ◌+◌, ◌-◌, ◌*◌, ◌/◌, ◌%◌, ◌^◌, ◌<◌, ◌≤◌, ◌≡◌, Bool, true, false, List, eqb}
+use Rattle.std.specs.Prelude.{ℕ, suc, ◌+◌, ◌-◌, ◌*◌, ◌/◌, ◌%◌, ◌^◌, ◌<◌, ◌≤◌, ◌≡◌, Bool, true, false, List, eqb, if◌then◌else◌}
 use Rattle.std.proofs.Common.{zero-le, sym, ap, ◌∙◌, lt_of_le_of_lt, lt_of_not-le, lit<, shr-shr}
 use Rattle.std.proofs.Math.Path.{refl}
 use Rattle.std.specs.Bool.{beq}
 use native.Mathlib.Omega.{arith}
 use Rattle.std.proofs.lemmas.Nat.{and_le_l, or_lt}
 use Rattle.std.proofs.Math.Pow.{field, mod-mod-pow}
-use Rattle.bits.specs.Choice.{if◌then◌else◌, beq_true}
+use Rattle.bits.specs.Choice.{beq_true}
 use Rattle.bits.specs.Field.{bit_of, chosen_of, packed_of}
 use Rattle.bits.specs.Trying.{Trial, any_bool, ◌and◌}
 use Rattle.port.specs.declared.Pair.TheVariants.{H12, H34}

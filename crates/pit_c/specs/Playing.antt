@@ -1,6 +1,5 @@
 -- The function of include/pit.h that plays a list: what it answers, and what all that it is lent then holds.
-use Rattle.std.specs.Prelude.{ℕ, Bool, ◌&&◌, List, [], ◌∷◌, eqb, length}
-use Rattle.bits.specs.Choice.{if◌then◌else◌}
+use Rattle.std.specs.Prelude.{ℕ, Bool, ◌&&◌, List, [], ◌∷◌, eqb, length, if◌then◌else◌}
 use Rattle.play.specs.Play.{Result, play_of}
 use Rattle.play.specs.declared.playing.Outcome.{Outcome}
 use Rattle.pit_c.specs.Layout.{bytes_of, device_of}

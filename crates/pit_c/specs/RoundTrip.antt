@@ -1,9 +1,9 @@
 -- The layout loses nothing: a device is read back from its bytes as it was stored, and bytes with every flag 0 or 1 are stored back as
 -- they were read.
-use Rattle.std.specs.Prelude.{ℕ, zero, suc, ◌+◌, ◌*◌, ◌/◌, ◌%◌, ◌^◌, ◌<◌, ◌≡◌, refl, Bool, true, false, not, ◌||◌, List, [], ◌∷◌, eqb, length, drop}
+use Rattle.std.specs.Prelude.{ℕ, zero, suc, ◌+◌, ◌*◌, ◌/◌, ◌%◌, ◌^◌, ◌<◌, ◌≡◌, refl, Bool, true, false, not, ◌||◌, List, [], ◌∷◌, eqb, length, drop, if◌then◌else◌}
 use Rattle.std.proofs.Common.{sym, mod-eq_of_lt, arith, drop_of_length-le, drop-cons}
 use Rattle.std.proofs.Math.Nat.{div-div-eq-div-mul}
-use Rattle.bits.specs.Choice.{if◌then◌else◌, branch}
+use Rattle.bits.specs.Choice.{branch}
 use Rattle.device.specs.declared.Device.{Device}
 use Rattle.pit_c.specs.Layout.{size, flag_byte, bytes_of, byte_at, flag_at, number_of, number_at, preload_place, count_place}
 use Rattle.pit_c.specs.Layout.{parallel_of, gate_of, device_of}

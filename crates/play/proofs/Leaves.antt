@@ -14,7 +14,8 @@ use Rattle.event.specs.declared.Event.{Event}
 use Rattle.event.specs.declared.Event.TheVariants.{Write, Read, PortAcknowledge, TimerAcknowledge, Pin, Clocks, Reset}
 use Rattle.timer.specs.Running.{mark}
 use Rattle.clocks.specs.Clocks.{numbers, clock_number}
-use Rattle.bits.specs.Choice.{if◌then◌else◌, and_left, and_right}
+use Rattle.std.specs.Prelude.{if◌then◌else◌}
+use Rattle.bits.specs.Choice.{and_left, and_right}
 use Rattle.bits.specs.Field.{with_bit}
 use Rattle.port.specs.Buffers.{buffer_edge, buffer_written}
 use Rattle.port.specs.Clocking.{untimed_of, clocks_of as linkClocks}

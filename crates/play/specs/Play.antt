@@ -1,7 +1,6 @@
 -- The call `play(list, device, answers, openings)` (01, 'The event list'): the list taken apart, then the effect of its events; the
 -- refusals in 01's order: 8, then 1 to 5 as the list is read, then 6, then 7.
-use Rattle.std.specs.Prelude.{ℕ, ◌≡◌, List, ◌++◌, ltb, length, drop}
-use Rattle.bits.specs.Choice.{if◌then◌else◌}
+use Rattle.std.specs.Prelude.{ℕ, ◌≡◌, List, ◌++◌, ltb, length, drop, if◌then◌else◌}
 use Rattle.wire.specs.List.{Parsed, events, refused, parsed}
 use Rattle.device.specs.Events.{Made, made}
 use Rattle.device.specs.Validity.{valid_of}

@@ -1,6 +1,5 @@
 -- A port's cells with the pair that moves them (01, 'Mode 0').
-use Rattle.std.specs.Prelude.{ℕ, true}
-use Rattle.bits.specs.Choice.{if◌then◌else◌}
+use Rattle.std.specs.Prelude.{ℕ, true, if◌then◌else◌}
 use Rattle.port.specs.Control.{inputs_of, outputs_of}
 use Rattle.port.specs.Handshaking.{accepts_of}
 use Rattle.port.specs.Moving.{moved_of, drawn_of, put_of, latched_of}

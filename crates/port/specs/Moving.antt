@@ -1,6 +1,5 @@
 -- The two-place buffer's step on one port's cells, under the count of the pair that moves them (01, 'Mode 0'; 000, 2.1.2 and 2.1.3).
-use Rattle.std.specs.Prelude.{ℕ, Bool}
-use Rattle.bits.specs.Choice.{if◌then◌else◌}
+use Rattle.std.specs.Prelude.{ℕ, Bool, if◌then◌else◌}
 use Rattle.port.specs.Buffering.{stored_at, removed_at, oldest_at, filled_at, taken_at, latched_at, stored_count, removed_count}
 use Rattle.port.specs.Parts.{places_of, cells_of}
 use Rattle.port.specs.declared.Way.{Way}

@@ -1,13 +1,13 @@
 -- PC2's outside level is seen by TIN, with a source other than 00, and by a read of data C, and by nothing else that opens the gate or
 -- answers (01, 'Timer', 'Registers').
-use Rattle.std.specs.Prelude.{ℕ, zero, suc, ◌+◌, ◌-◌, ◌/◌, ◌%◌, ◌^◌, ◌<◌, Bool, List, [], ◌∷◌, ◌++◌, ◌≡◌, eqb, ltb}
+use Rattle.std.specs.Prelude.{ℕ, zero, suc, ◌+◌, ◌-◌, ◌/◌, ◌%◌, ◌^◌, ◌<◌, Bool, List, [], ◌∷◌, ◌++◌, ◌≡◌, eqb, ltb, if◌then◌else◌}
 use Rattle.std.proofs.Math.Bool.{true, false}
 use Rattle.std.proofs.Math.Path.{refl}
 use Rattle.std.proofs.Common.{sym, ap, ap₂, subst, ◌∙◌, arith}
 use borrow.Author.Tests.{eqb-true, ne_eqb, le-leb, lt-ltb, ltb-true}
 use Rattle.std.specs.Int.Bits.{bit_and, bit_or}
 use Rattle.std.proofs.lemmas.Nat.{and_shr, and_mod, and_le_l, or_lt}
-use Rattle.bits.specs.Choice.{if◌then◌else◌, branch}
+use Rattle.bits.specs.Choice.{branch}
 use Rattle.bits.specs.Field.{bit_of, field_of, with_bit}
 use Rattle.bits.specs.Tables.{each, missed}
 use Rattle.bits.specs.Trying.{any_below}

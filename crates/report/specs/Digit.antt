@@ -1,6 +1,5 @@
 -- Hexadecimal digits in upper case.
-use Rattle.std.specs.Prelude.{ℕ, ◌+◌, ◌%◌, ltb}
-use Rattle.bits.specs.Choice.{if◌then◌else◌}
+use Rattle.std.specs.Prelude.{ℕ, ◌+◌, ◌%◌, ltb, if◌then◌else◌}
 
 -- 0 to 9 are bytes 48 to 57, A to F 65 to 70
 unfoldable pub digit_of : ℕ → ℕ

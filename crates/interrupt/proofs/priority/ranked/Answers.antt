@@ -1,7 +1,6 @@
 -- `ranked` meets its contract: the bits say which status stands at a place.
-use Rattle.std.proofs.Common.{ℕ, ◌≡◌, ◌<◌, Bool, true, false, sym}
+use Rattle.std.proofs.Common.{ℕ, ◌≡◌, ◌<◌, Bool, true, false, sym, if◌then◌else◌}
 use mathlib.Core.Bool.{beq}
-use Rattle.bits.specs.Choice.{if◌then◌else◌}
 use Rattle.bits.specs.Field.{bit_of}
 use Rattle.interrupt.specs.Priority.{ranked_of}
 use Rattle.interrupt.proofs.Orders.{rank_by_bits_lem}

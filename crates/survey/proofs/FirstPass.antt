@@ -2,9 +2,7 @@
 use Prim.Native.Nat.{ℕ, ◌+◌, ◌*◌, ◌≤◌, ◌<◌}
 use mathlib.Core.Path.{◌≡◌, refl, sym, ap, ◌∙◌, subst}
 use mathlib.Core.List.{List}
-use mathlib.Core.Logic.{◌⊎◌, inl, inr}
 use native.Mathlib.Omega.{arith}
-use denote.Enum.Declared.{tag_of}
 use lib.ListN.{length}
 use Rattle.event.specs.declared.Event.{Event}
 use Rattle.gate.specs.declared.Gate.{Gate}
@@ -16,7 +14,6 @@ use Rattle.wire.specs.Finds.{moves}
 use Rattle.wire.specs.Word.{NoEvent}
 use Rattle.wire.specs.declared.next.Next.{Next}
 use Rattle.wire.specs.declared.next.Next.TheVariants.{Play, End, Refused}
-use Rattle.wire.specs.contracts.next.Next.{the_type}
 use Rattle.device.specs.Following.{followed}
 use Rattle.survey.specs.Following.{opens_at, opens_few, going_on, event_first, at_end_lem}
 
@@ -50,13 +47,12 @@ module _ (s : List ℕ) (g₀ g : Gate) (n at : ℕ) (counted : Counted s g₀ g
   last x here = sym (ap (going_on g n) (rest_reads s at x here)) ∙ counted.same
 
   -- no event stands here, and no refusal: the list ends
-  ends : (x : Next) → next_at s at ≡ x → NoEvent x → (tag_of the_type x ≡ 0) ⊎ (tag_of the_type x ≡ 1) → n ≡ going_on g₀ 0 (parsed s)
+  ends : (x : Next) → next_at s at ≡ x → NoEvent x → ((r p : ℕ) → x ≡ Refused r p → ⊥) → n ≡ going_on g₀ 0 (parsed s)
   ends (Play e p) here none t = absurd none
   ends End here none t = at_end_lem g n ∙ last End here
-  ends (Refused r p) here none (inl t) = absurd (omega (arith, t))
-  ends (Refused r p) here none (inr t) = absurd (omega (arith, t))
+  ends (Refused r p) here none t = absurd (t r p refl)
 
-  pub ended : (x : Next) → x ≡ next_at s at → NoEvent (next_at s at) → (tag_of the_type x ≡ 0) ⊎ (tag_of the_type x ≡ 1) → n ≡ going_on g₀ 0 (parsed s)
+  pub ended : (x : Next) → x ≡ next_at s at → NoEvent (next_at s at) → ((r p : ℕ) → x ≡ Refused r p → ⊥) → n ≡ going_on g₀ 0 (parsed s)
   ended x here none t = ends x (sym here) (subst NoEvent (sym here) none) t
 
   -- a refusal stands here

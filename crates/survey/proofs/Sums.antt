@@ -2,9 +2,7 @@
 use Prim.Native.Nat.{ℕ, ◌+◌, ◌*◌, ◌≤◌, ◌<◌}
 use mathlib.Core.Path.{◌≡◌, refl, sym, ap, ◌∙◌, subst}
 use mathlib.Core.List.{List}
-use mathlib.Core.Logic.{◌⊎◌, inl, inr}
 use native.Mathlib.Omega.{arith}
-use denote.Enum.Declared.{tag_of}
 use lib.ListN.{length}
 use Rattle.event.specs.declared.Event.{Event}
 use Rattle.wire.specs.Field.{bits_in}
@@ -16,9 +14,7 @@ use Rattle.wire.specs.Finds.{moves}
 use Rattle.wire.specs.Word.{NoEvent}
 use Rattle.wire.specs.declared.next.Next.{Next}
 use Rattle.wire.specs.declared.next.Next.TheVariants.{Play, End, Refused}
-use Rattle.wire.specs.contracts.next.Next.{the_type}
 use Rattle.survey.specs.Check.{checked_of, checking_on, from_first, event_first, at_end_lem}
-use Rattle.survey.specs.declared.checking.Checked.{Checked}
 use Rattle.survey.specs.declared.checking.Checked.TheVariants as checked
 
 pub record Summed (s : List ℕ) (a k at : ℕ) : Type 0 where
@@ -51,13 +47,12 @@ module _ (s : List ℕ) (a k at : ℕ) (sum : Summed s a k at) where
   last x here = sym (ap (checking_on a k) (rest_reads s at x here)) ∙ sum.same
 
   -- no event stands here, and no refusal: the list ends
-  ends : (x : Next) → next_at s at ≡ x → NoEvent x → (tag_of the_type x ≡ 0) ⊎ (tag_of the_type x ≡ 1) → checked.Whole (record { answers = a; clocks = k }) ≡ checked_of (parsed s)
-  ends (Play e p) here none k = absurd none
-  ends End here none _ = at_end_lem a k ∙ last End here
-  ends (Refused r p) here none (inl t) = absurd (omega (arith, t))
-  ends (Refused r p) here none (inr t) = absurd (omega (arith, t))
+  ends : (x : Next) → next_at s at ≡ x → NoEvent x → ((r p : ℕ) → x ≡ Refused r p → ⊥) → checked.Whole (record { answers = a; clocks = k }) ≡ checked_of (parsed s)
+  ends (Play e p) here none t = absurd none
+  ends End here none t = at_end_lem a k ∙ last End here
+  ends (Refused r p) here none t = absurd (t r p refl)
 
-  pub ended : (x : Next) → x ≡ next_at s at → NoEvent (next_at s at) → (tag_of the_type x ≡ 0) ⊎ (tag_of the_type x ≡ 1) → checked.Whole (record { answers = a; clocks = k }) ≡ checked_of (parsed s)
+  pub ended : (x : Next) → x ≡ next_at s at → NoEvent (next_at s at) → ((r p : ℕ) → x ≡ Refused r p → ⊥) → checked.Whole (record { answers = a; clocks = k }) ≡ checked_of (parsed s)
   ended x here none t = ends x (sym here) (subst NoEvent (sym here) none) t
 
   -- a refusal stands here

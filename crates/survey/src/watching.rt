@@ -17,8 +17,8 @@ pub(crate) struct Watched {
 
 // n clocks that are no source steps: the first takes a held rise, and the timer stands.
 fn watch_rise(mut gate: Gate, tin: bool, n: u32) -> Watched
-    requires c_value { clock_steps gate.timer.tcr (tin_level gate.c) ≡ false }
-    requires tin_value { tin ≡ tin_level gate.c }
+    requires unstepped { clock_steps gate.timer.tcr (tin_level gate.c) ≡ false }
+    requires at_tin { tin ≡ tin_level gate.c }
     ensures { result ≡ watched_clocks gate n }
 {
     if !gate.timer.takes_rise(tin) {

@@ -10,7 +10,6 @@ use lib.ListN.{length}
 use lib.Seq.{sets}
 use Rattle.event.specs.Map.{PADR, PBDR, PB0, PC0, H1}
 use Rattle.event.specs.declared.Answer.{Answer}
-use Rattle.event.specs.declared.Event.{Event}
 use Rattle.event.specs.declared.Event.TheVariants.{Write, Read, PortAcknowledge, TimerAcknowledge, Pin, Clocks, Reset}
 use Rattle.timer.specs.Running.{mark}
 use Rattle.clocks.specs.Clocks.{numbers, clock_number}
@@ -27,7 +26,8 @@ use Rattle.port.specs.declared.Pair.TheVariants.{H12, H34}
 use Rattle.port.specs.declared.Rules.{Rules}
 use Rattle.port.specs.declared.Buffer.{Buffer}
 use Rattle.port.specs.declared.Link.{Link}
-use Rattle.gate.specs.Ahead.{quiet_gate, passed_gate, regular_gate, opened_gate, gone_gate, moments_gate, quiet_clocks_lem, regular_clocks, moments_many, rises_gate, risen_gate, moments_risen, rise_clocks}
+use Rattle.gate.specs.Ahead.{quiet_gate, passed_gate, regular_gate, opened_gate, gone_gate, moments_gate, quiet_clocks_lem, regular_clocks, moments_many}
+use Rattle.gate.specs.Ahead.{rises_gate, risen_gate, moments_risen, rise_clocks}
 use Rattle.gate.specs.Clocking.{gate_after, gate_openings, gate_run}
 use Rattle.gate.specs.Pins.{line_event}
 use Rattle.gate.specs.declared.Gate.{Gate}

@@ -1,7 +1,6 @@
 -- `run` meets its contract: what each turn leaves is what its event does, and so what is left of the list, played from here, ends as the whole list.
 use Rattle.std.proofs.Common.{◌≡◌, ℕ, ◌+◌, ◌-◌, ◌<◌, List, not, refl, ap, ◌∙◌, arith}
 use Rattle.event.specs.declared.Event.{Event}
-use Rattle.event.specs.declared.Event.TheVariants.{Clocks}
 use Rattle.port.specs.declared.Pair.TheVariants.{H12, H34}
 use Rattle.parallel.specs.Clocking.{clocks_of}
 use Rattle.parallel.specs.Parts.{link_of}
@@ -203,11 +202,11 @@ handshaken : (j : Joined-not-untimed)
 handshaken j =
     let d = j.loop-device.device in
     elim j.if-not-untimed.branch [
-      then-not-untimed w ↦
-        w.device-is ∙ ap (with_parallel d) (leaves.stepped d.parallel _ w.rules-then-not-untimed.ensures w.clocks-one.ensures
-        w.rules-then-not-untimed-2.ensures w.clocks-two.ensures w.with_links-device.ensures)
-    | else-not-untimed w ↦
-        w.device-is ∙ ap (with_parallel d) (leaves.standing d.parallel _ j.untimed.ensures j.untimed-in-Clocks.ensures (ap not w.if-not-untimed.false))
+      | then-not-untimed w ↦
+          w.device-is ∙ ap (with_parallel d) (leaves.stepped d.parallel _ w.rules-then-not-untimed.ensures w.clocks-one.ensures
+          w.rules-then-not-untimed-2.ensures w.clocks-two.ensures w.with_links-device.ensures)
+      | else-not-untimed w ↦
+          w.device-is ∙ ap (with_parallel d) (leaves.standing d.parallel _ j.untimed.ensures j.untimed-in-Clocks.ensures (ap not w.if-not-untimed.false))
     ]
 
 pub overflow_add-clocks : goal.overflow_add-clocks

@@ -1,10 +1,14 @@
-// The lines that the programs print (01, 'Lists to try'). A contract can say that a function hands back nothing, and not what it
-// writes: the programs' output is compared with stored files.
+// The lines that the programs print (01, 'Lists to try'). Where a writer tells what it holds, as a vector does, a contract says
+// what is written; of standard output none can, and the programs' output is compared with stored files.
 #![tactic(auto)]
-ghost use Rattle.std.specs.Prelude.{◌≡◌};
-ghost use Rattle.report.specs.Digit.{digit_of};
 
-use libc::STDOUT_FILENO;
+ghost use Rattle.std.specs.Prelude.{◌≡◌, IfOk, OnOk, take};
+ghost use Rattle.std.specs.Io.KnownBytes.{Appends};
+ghost use Rattle.report.specs.Digit.{digit_of};
+ghost use Rattle.report.specs.Lines.{two_digits, refusal_line, opening_line, opening_lines, clocks_line};
+
+use std::io;
+use std::io::Write;
 
 // The digit of a number below 16, in upper case; of any other number that of its remainder by 16.
 #[tactic(auto, unfolding(crate::specs::Digit::digit_of))]
@@ -19,49 +23,52 @@ pub fn digit(n: u8) -> u8
 }
 
 // A byte as two digits.
-pub fn hex(byte: u8)
-    ensures { result ≡ tt }
+#[tactic(auto, unfolding(crate::specs::Lines::two_digits))]
+pub fn hex<W: Write>(out: &mut W, byte: u8) -> io::Result<()>
+    ensures ok { IfOk result (λ r. r ≡ tt) }
+    ensures written { OnOk result (Appends (W.contents out.old) (W.contents out.new) (two_digits byte)) }
 {
     let two = [digit(byte / 16), digit(byte)];
-    io::write_all(STDOUT_FILENO, &two);
+    out.write_all(&two)
 }
 
 // `R`, a refusal and its place.
-pub fn refusal(number: u8, place: usize)
-    ensures { result ≡ tt }
+#[tactic(auto, unfolding(crate::specs::Lines::refusal_line))]
+pub fn refusal<W: Write>(out: &mut W, number: u8, place: usize) -> io::Result<()>
+    ensures ok { IfOk result (λ r. r ≡ tt) }
+    ensures written { OnOk result (Appends (W.contents out.old) (W.contents out.new) (refusal_line number place)) }
 {
-    io::write_all(STDOUT_FILENO, b"R ");
-    io::print_decimal(STDOUT_FILENO, number as u64);
-    io::write_all(STDOUT_FILENO, b" ");
-    io::print_decimal(STDOUT_FILENO, place as u64);
-    io::write_all(STDOUT_FILENO, b"\n");
+    writeln!(out, "R {number} {place}")
 }
 
-fn opening(clock: u32) {
-    io::write_all(STDOUT_FILENO, b"G ");
-    io::print_decimal(STDOUT_FILENO, clock as u64);
-    io::write_all(STDOUT_FILENO, b"\n");
+#[tactic(auto, unfolding(crate::specs::Lines::opening_line))]
+fn opening<W: Write>(out: &mut W, clock: u32) -> io::Result<()>
+    ensures { OnOk result (Appends (W.contents out.old) (W.contents out.new) (opening_line clock)) }
+{
+    writeln!(out, "G {clock}")
 }
 
 // `G` and its clock for each opening, of the used entries of a row.
-pub fn openings(row: &[u32], used: usize)
-    ensures { result ≡ tt }
+pub fn openings<W: Write>(out: &mut W, row: &[u32], used: usize) -> io::Result<()>
+    ensures ok { IfOk result (λ r. r ≡ tt) }
+    ensures written { OnOk result (Appends (W.contents out.old) (W.contents out.new) (opening_lines (take used row.now))) }
 {
     let mut i = 0;
     while i < row.len() {
         if used <= i {
-            return;
+            return Ok(());
         }
-        opening(row[i]);
+        opening(out, row[i])?;
         i += 1;
     }
+    Ok(())
 }
 
 // `C` and all clocks.
-pub fn clocks(n: u32)
-    ensures { result ≡ tt }
+#[tactic(auto, unfolding(crate::specs::Lines::clocks_line))]
+pub fn clocks<W: Write>(out: &mut W, n: u32) -> io::Result<()>
+    ensures ok { IfOk result (λ r. r ≡ tt) }
+    ensures written { OnOk result (Appends (W.contents out.old) (W.contents out.new) (clocks_line n)) }
 {
-    io::write_all(STDOUT_FILENO, b"C ");
-    io::print_decimal(STDOUT_FILENO, n as u64);
-    io::write_all(STDOUT_FILENO, b"\n");
+    writeln!(out, "C {n}")
 }

@@ -4,31 +4,33 @@
 // one, P sets a pin, S strobes H1, L sets port A's outside levels, U makes rises of a pin, C passes clocks, T shows the timer, H port A
 // with its handshake.
 #![tactic(auto)]
+
 use device::Device;
 use event::Answer;
-use libc::{STDIN_FILENO, STDOUT_FILENO};
+use std::io;
+use std::io::{Read, Write};
 
-fn text(words: &[u8]) {
-    io::write_all(STDOUT_FILENO, words);
+fn text(out: &mut impl Write, words: &[u8]) -> io::Result<()> {
+    out.write_all(words)
 }
 
-fn number(label: &[u8], n: u64) {
-    text(label);
-    io::print_decimal(STDOUT_FILENO, n);
+fn number(out: &mut impl Write, label: &[u8], n: u64) -> io::Result<()> {
+    text(out, label)?;
+    write!(out, "{n}")
 }
 
-fn hex(n: u8) {
-    io::print_hex(STDOUT_FILENO, n as u64, 2);
+fn hex(out: &mut impl Write, n: u8) -> io::Result<()> {
+    write!(out, "{n:02x}")
 }
 
-fn end_line() {
-    text(b"\n");
+fn end_line(out: &mut impl Write) -> io::Result<()> {
+    text(out, b"\n")
 }
 
-fn answer(a: Answer) {
+fn answer(out: &mut impl Write, a: Answer) -> io::Result<()> {
     match a {
-        Answer::Vector(v) => hex(v),
-        Answer::Silent => text(b"--"),
+        Answer::Vector(v) => hex(out, v),
+        Answer::Silent => text(out, b"--"),
     }
 }
 
@@ -39,37 +41,37 @@ fn shown(d: Device, register: u8) -> u8 {
 }
 
 // What the timer shows: TOUT, ZDS, the counter and what an acknowledge would answer.
-fn show_timer(d: Device, clocks: u64) {
-    number(b"  after ", clocks);
-    number(b": TOUT ", d.level(19) as u64);
-    number(b" ZDS ", shown(d, 26) as u64);
-    text(b" count ");
-    hex(shown(d, 23));
-    hex(shown(d, 24));
-    hex(shown(d, 25));
-    text(b" acknowledge ");
-    answer(d.timer_acknowledge());
-    end_line();
+fn show_timer(out: &mut impl Write, d: Device, clocks: u64) -> io::Result<()> {
+    number(out, b"  after ", clocks)?;
+    number(out, b": TOUT ", d.level(19) as u64)?;
+    number(out, b" ZDS ", shown(d, 26) as u64)?;
+    text(out, b" count ")?;
+    hex(out, shown(d, 23))?;
+    hex(out, shown(d, 24))?;
+    hex(out, shown(d, 25))?;
+    text(out, b" acknowledge ")?;
+    answer(out, d.timer_acknowledge())?;
+    end_line(out)
 }
 
 // What port A shows: H2, H1S and its pins.
-fn show_port(d: Device, clocks: u64) {
-    number(b"  after ", clocks);
-    number(b": H2 ", d.level(25) as u64);
-    number(b" H1S ", (shown(d, 13) % 2) as u64);
-    text(b" pins ");
-    hex(shown(d, 10));
-    end_line();
+fn show_port(out: &mut impl Write, d: Device, clocks: u64) -> io::Result<()> {
+    number(out, b"  after ", clocks)?;
+    number(out, b": H2 ", d.level(25) as u64)?;
+    number(out, b" H1S ", (shown(d, 13) % 2) as u64)?;
+    text(out, b" pins ")?;
+    hex(out, shown(d, 10))?;
+    end_line(out)
 }
 
 // A read, with its byte printed.
-fn read(d: Device, register: u8) -> Device {
+fn read(out: &mut impl Write, d: Device, register: u8) -> io::Result<Device> {
     let got = d.read(register);
-    number(b"  register ", register as u64);
-    text(b" reads ");
-    hex(got.byte);
-    end_line();
-    got.device
+    number(out, b"  register ", register as u64)?;
+    text(out, b" reads ")?;
+    hex(out, got.byte)?;
+    end_line(out)?;
+    Ok(got.device)
 }
 
 // The eight outside levels of port A.
@@ -87,31 +89,37 @@ fn rise(d: Device, number: u8) -> Device {
 }
 
 // One clock, with a line where it opens the gate.
-fn clock(d: Device, at: u64) -> Device {
+fn clock(out: &mut impl Write, d: Device, at: u64) -> io::Result<Device> {
     let stepped = d.clock();
     if stepped.opened {
-        number(b"  opens at ", at);
-        end_line();
+        number(out, b"  opens at ", at)?;
+        end_line(out)?;
     }
-    stepped.device
+    Ok(stepped.device)
 }
 
 // The clocks after one number, up to another, one at a time.
-fn clocks(device: Device, before: u64, after: u64) -> Device {
+fn clocks(out: &mut impl Write, device: Device, before: u64, after: u64) -> io::Result<Device> {
     let mut d = device;
     for passed in before..after {
-        d = clock(d, passed + 1);
+        d = clock(out, d, passed + 1)?;
     }
-    d
+    Ok(d)
 }
 
 // The same, with a rise of a pin before each.
-fn rises(device: Device, number: u8, before: u64, after: u64) -> Device {
+fn rises(
+    out: &mut impl Write,
+    device: Device,
+    number: u8,
+    before: u64,
+    after: u64,
+) -> io::Result<Device> {
     let mut d = device;
     for passed in before..after {
-        d = clock(rise(d, number), passed + 1);
+        d = clock(out, rise(d, number), passed + 1)?;
     }
-    d
+    Ok(d)
 }
 
 // How many clocks the part has had after a step.
@@ -125,39 +133,48 @@ fn clocks_after(before: u64, what: u8, x: u8, y: u8) -> u64 {
 }
 
 // An example's title: the rest of its line.
-fn title() {
+fn title(input: &mut impl Read, out: &mut impl Write) -> io::Result<()> {
     for _ in 0..64u32 {
-        let one = byte();
+        let one = byte(input)?;
         if one < b' ' {
-            end_line();
-            return;
+            return end_line(out);
         }
         let letter = [one];
-        text(&letter);
+        text(out, &letter)?;
     }
+    Ok(())
 }
 
 // One step: what it does and two numbers for it. The part has had so many clocks before it and after it.
-fn step(d: Device, before: u64, after: u64, what: u8, x: u8, y: u8) -> Device {
+fn step(
+    input: &mut impl Read,
+    out: &mut impl Write,
+    d: Device,
+    before: u64,
+    after: u64,
+    what: u8,
+    x: u8,
+    y: u8,
+) -> io::Result<Device> {
     match what {
         b'=' => {
-            title();
-            Device::fresh()
+            title(input, out)?;
+            Ok(Device::fresh())
         }
-        b'W' => d.write(x, y),
-        b'R' => read(d, x),
-        b'P' => d.pin(x, y == 1),
-        b'S' => rise(d, 24),
-        b'L' => levels(d, x),
-        b'U' => rises(d, x, before, after),
-        b'C' => clocks(d, before, after),
+        b'W' => Ok(d.write(x, y)),
+        b'R' => read(out, d, x),
+        b'P' => Ok(d.pin(x, y == 1)),
+        b'S' => Ok(rise(d, 24)),
+        b'L' => Ok(levels(d, x)),
+        b'U' => rises(out, d, x, before, after),
+        b'C' => clocks(out, d, before, after),
         b'T' => {
-            show_timer(d, before);
-            d
+            show_timer(out, d, before)?;
+            Ok(d)
         }
         _ => {
-            show_port(d, before);
-            d
+            show_port(out, d, before)?;
+            Ok(d)
         }
     }
 }
@@ -168,33 +185,36 @@ fn value(digit: u8) -> u8 {
 }
 
 // The next byte of standard input, 0 after its end.
-fn byte() -> u8 {
+fn byte(input: &mut impl Read) -> io::Result<u8> {
     let mut one = [0u8; 1];
-    io::read_full(STDIN_FILENO, &mut one);
-    one[0]
+    input.read(&mut one)?;
+    Ok(one[0])
 }
 
 // The number that a blank and two digits spell.
-fn number_read() -> u8 {
-    byte();
-    let high = value(byte()) % 16;
-    high * 16 + value(byte()) % 16
+fn number_read(input: &mut impl Read) -> io::Result<u8> {
+    byte(input)?;
+    let high = value(byte(input)?) % 16;
+    Ok(high * 16 + value(byte(input)?) % 16)
 }
 
 // The steps, 512 at most, a line each: a letter, a blank, two digits, a blank and two digits.
-fn main() {
+fn main(rt: HostRuntime) -> io::Result<()> {
+    let mut input = rt.stdin();
+    let mut out = rt.stdout();
     let mut d = Device::fresh();
     let mut clocks: u64 = 0;
     for _ in 0..512u32 {
-        let what = byte();
+        let what = byte(&mut input)?;
         if what == 0 {
-            return;
+            return Ok(());
         }
-        let x = number_read();
-        let y = number_read();
-        byte();
+        let x = number_read(&mut input)?;
+        let y = number_read(&mut input)?;
+        byte(&mut input)?;
         let after = clocks_after(clocks, what, x, y);
-        d = step(d, clocks, after, what, x, y);
+        d = step(&mut input, &mut out, d, clocks, after, what, x, y)?;
         clocks = after;
     }
+    Ok(())
 }

@@ -1,0 +1,9 @@
+use Rattle.std.proofs.Common.{arith}
+use Rattle.report.proofs.Appended.{nothing, both, line-more, no-line}
+use Rattle.report.proofs.openings.Goals as goal
+
+pub loop-i-init : goal.loop-i-init
+loop-i-init g c = (omega arith, omega arith, rw no-line (nothing _))
+
+pub loop-i-preserved : goal.loop-i-preserved
+loop-i-preserved g c = (omega (arith, c.loop-i-test.true), omega (arith, c.if-used-i.false), rw (line-more c.args.row.now c.loop-i.i c.loop-i-test.true) (both _ _ _ _ _ c.loop-i.invariant.2 c.in_ok-opening.ensures))

@@ -11,7 +11,6 @@ use Rattle.timer.specs.Parts.{with_tivr}
 use Rattle.timer.specs.Registers.{byte_of}
 use Rattle.gate.specs.Parts.{with_timer, with_c}
 use Rattle.gate.specs.Registers.{write_tcr, write_preload, write_tsr}
-use Rattle.gate.specs.declared.Gate.{Gate}
 use Rattle.parallel.specs.Parts.{with_ports}
 use Rattle.parallel.specs.Pins.{pins_of}
 use Rattle.parallel.specs.Data.{read_data as data_read, write_data}

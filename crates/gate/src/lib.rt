@@ -1,5 +1,6 @@
 // What opens the gate: the timer, and port C whose PC2 may carry TIN (01, 'Timer'). Who counts openings follows this alone.
 #![tactic(auto)]
+
 mod clocking;
 mod fresh;
 mod pins;

@@ -1,6 +1,6 @@
 -- What refusal 8 asks of a pair, and that a sound pair stays sound through everything that happens to it (01, refusal 8 and
 -- 'Mode 0'), by trying every pair there can be.
-use Rattle.std.specs.Prelude.{◌≡◌, refl, Bool, true, false, not, ◌&&◌, ◌||◌, List, [], ◌∷◌, ◌↔◌, ℕ, zero, suc, ◌<◌, ◌≤◌, leb, ltb, eqb, if◌then◌else◌}
+use Rattle.std.specs.Prelude.{◌≡◌, refl, Bool, true, false, not, ◌&&◌, ◌||◌, List, [], ◌∷◌, ◌↔◌, ℕ, zero, suc, ◌<◌, ◌≤◌, leb, ltb, eqb}
 use Rattle.std.proofs.Common.{sym, ap, subst, ◌∙◌, true≢false, arith, leb-true, le-leb, eqb-true, eq-eqb, ne_eqb}
 use Rattle.std.specs.Bool.{beq}
 use Rattle.std.proofs.lemmas.Bool.{false≢true, not-true, not-false}

@@ -1,6 +1,5 @@
 -- A valid device stays valid, whatever happens to it (01, refusal 8).
-use Rattle.std.specs.Prelude.{◌≡◌, refl, Bool, true, List, [], ◌∷◌, ℕ, zero, suc, ◌<◌, ◌-◌}
-use Rattle.std.proofs.Common.{arith}
+use Rattle.std.specs.Prelude.{◌≡◌, Bool, true, List, [], ◌∷◌, ℕ, zero, suc, ◌<◌, ◌-◌}
 use Rattle.bits.specs.Choice.{and_left, and_right, both}
 use Rattle.bits.specs.Tables.{each}
 use Rattle.event.specs.Map.{CPRH}
@@ -8,7 +7,7 @@ use Rattle.event.specs.declared.Event.{Event}
 use Rattle.event.specs.declared.Event.TheVariants.{Write, Read, PortAcknowledge, TimerAcknowledge, Pin, Clocks, Reset}
 use Rattle.port.specs.declared.Pair.TheVariants.{H12, H34}
 use Rattle.port_c.specs.Fresh.{fresh_c, reset_c}
-use Rattle.port_c.specs.Pins.{tin, tin_level}
+use Rattle.port_c.specs.Pins.{tin_level}
 use Rattle.gate.specs.Clocking.{clocked_gate}
 use Rattle.gate.specs.Fresh.{fresh_gate, reset_gate}
 use Rattle.gate.specs.Pins.{tin_event}

@@ -1,5 +1,5 @@
 -- Reads and writes of data A and B (01, 'Mode 0'; 000, 2.1 and 4.6).
-use Rattle.std.specs.Prelude.{ℕ, Bool, if◌then◌else◌}
+use Rattle.std.specs.Prelude.{ℕ, if◌then◌else◌}
 use Rattle.bits.specs.Field.{chosen_of}
 use Rattle.port.specs.Control.{inputs_of, outputs_of}
 use Rattle.port.specs.Moving.{oldest_of, drawn_of, put_of, latched_of}

@@ -1,6 +1,7 @@
 // Ports A and B with their handshake pairs, and the port interrupts (01, 'Registers', 'Mode 0', 'Interrupts'): their state here, the
 // rules in the modules.
 #![tactic(auto)]
+
 pub mod clocking;
 pub mod data;
 pub mod fresh;

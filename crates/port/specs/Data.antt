@@ -1,5 +1,5 @@
 -- What a data read and a data write do to the pair whose elements they move (01, 'Mode 0'; 000, 2.1.2 and 2.1.3).
-use Rattle.std.specs.Prelude.{ℕ, Bool, true, false, not, ◌&&◌, if◌then◌else◌}
+use Rattle.std.specs.Prelude.{ℕ, Bool, not, ◌&&◌, if◌then◌else◌}
 use Rattle.port.specs.Parts.{with_held, with_strobe}
 use Rattle.port.specs.Buffering.{removed_count, filled_count}
 use Rattle.port.specs.Handshaking.{ready_of, readied_of}

@@ -1,5 +1,5 @@
 -- Edges of a pair's pins, and H2 restarted (01, 'Mode 0'; 000, 2.1, 2.3, 2.5 and 3.3).
-use Rattle.std.specs.Prelude.{ℕ, Bool, true, false, ◌&&◌, if◌then◌else◌}
+use Rattle.std.specs.Prelude.{true, false, ◌&&◌, if◌then◌else◌}
 use Rattle.port.specs.Parts.{with_held, with_strobe, with_flags}
 use Rattle.port.specs.Moving.{moved_count}
 use Rattle.port.specs.Control.{direct_of, senses_of}

@@ -1,5 +1,5 @@
 -- Writes of PGCR, of a pair's control register and of PSR (01, 'Mode 0', 'Registers'; 000, 2.1, 2.3, 3.3 and 4.8).
-use Rattle.std.specs.Prelude.{ℕ, Bool, true, false, not, ◌&&◌, eqb, ltb, if◌then◌else◌}
+use Rattle.std.specs.Prelude.{ℕ, Bool, false, not, ◌&&◌, eqb, ltb, if◌then◌else◌}
 use Rattle.std.specs.Bool.{beq}
 use Rattle.port.specs.Control.{mode_of, submode_field, handshake_field, enabled_of, rules_of}
 use Rattle.port.specs.Parts.{with_control, with_strobe, with_flags}

@@ -1,5 +1,5 @@
 -- `Device::pin` meets its contract: port C's pins are the gate's, all others concern ports and pairs.
-use Rattle.std.proofs.Common.{◌≡◌, ◌≤◌, ◌<◌, sym, ap, ◌∙◌, arith}
+use Rattle.std.proofs.Common.{◌≤◌, ◌<◌, sym, ap, ◌∙◌, arith}
 use Rattle.event.specs.Map.{PC0, H1}
 use Rattle.device.specs.Parts.{with_parallel, with_gate}
 use Rattle.device.specs.Pins.{at_port_c, other_pins}
@@ -15,5 +15,5 @@ pub returns-in_default : goal.returns-in_default
 returns-in_default c =
     let a = c.args in
     let another : PC0 ≤ a.pin → a.pin < H1 → ⊥ =
-        (λ low high. elim c.in_default.branch [ in_default-via-then-pin-lt16 w ↦ omega arith | in_default-via-else-pin-lt16+else-pin-lt24 w ↦ omega arith ]) in
+    (λ low high. elim c.in_default.branch [ in_default-via-then-pin-lt16 w ↦ omega arith | in_default-via-else-pin-lt16+else-pin-lt24 w ↦ omega arith ]) in
     ap (with_parallel a.self) c.pin-self.ensures ∙ sym (other_pins a.self a.pin a.level another)

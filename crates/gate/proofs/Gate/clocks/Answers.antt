@@ -1,5 +1,5 @@
 -- `Gate::clocks` meets its contract: clocks of the gate are clocks of its timer, with TIN at its level.
-use Rattle.std.proofs.Common.{◌≡◌, refl, sym, ◌∙◌, ℕ, Bool, true, false, not, List}
+use Rattle.std.proofs.Common.{◌≡◌, refl, sym, ◌∙◌, ℕ, Bool, false, not, List}
 use mathlib.Core.List.{map}
 use lib.Seq.{sets}
 use borrow.Author.Tests.{not-true}

@@ -1,5 +1,5 @@
 -- `ranked` meets its contract: the bits say which status stands at a place.
-use Rattle.std.proofs.Common.{ℕ, ◌≡◌, ◌<◌, Bool, true, false, sym, if◌then◌else◌}
+use Rattle.std.proofs.Common.{ℕ, ◌≡◌, ◌<◌, Bool, sym, if◌then◌else◌}
 use mathlib.Core.Bool.{beq}
 use Rattle.bits.specs.Field.{bit_of}
 use Rattle.interrupt.specs.Priority.{ranked_of}

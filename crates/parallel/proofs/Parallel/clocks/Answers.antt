@@ -1,4 +1,4 @@
-use Rattle.std.proofs.Common.{◌≡◌, sym, ◌∙◌}
+use Rattle.std.proofs.Common.{sym, ◌∙◌}
 use Rattle.bits.specs.Choice.{and_left, and_right}
 use Rattle.port.specs.ManyClocks.{untimed_stays}
 use Rattle.port.specs.declared.Pair.TheVariants.{H12, H34}

@@ -1,4 +1,4 @@
-use Rattle.std.proofs.Common.{◌≡◌, sym}
+use Rattle.std.proofs.Common.{sym}
 use Rattle.parallel.specs.Buffers.{edge_moves}
 use Rattle.parallel.proofs.Parallel.first_edge.Goals as goal
 

@@ -1,4 +1,4 @@
-use Rattle.std.proofs.Common.{◌≡◌, sym}
+use Rattle.std.proofs.Common.{sym}
 use Rattle.parallel.specs.Buffers.{write_moves}
 use Rattle.parallel.proofs.Parallel.write.Goals as goal
 

@@ -1,5 +1,5 @@
 -- `Strobe::clocks` meets its contract by the laws of many clocks.
-use Rattle.std.proofs.Common.{◌≡◌, sym, ◌∙◌}
+use Rattle.std.proofs.Common.{sym, ◌∙◌}
 use Rattle.port.specs.ManyClocks.{waits, falls_from, waits_out}
 use Rattle.port.proofs.Strobe.clocks.Goals as goal
 

@@ -1,4 +1,2 @@
 pub mod Stores
-pub mod Halves
-pub mod Outcomes
 pub mod Unique

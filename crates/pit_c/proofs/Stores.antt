@@ -3,8 +3,8 @@ use Prim.Native.Nat.{ℕ, ◌+◌}
 use mathlib.Core.List.{List, [], ◌++◌, append-nil}
 use mathlib.Core.Path.{◌≡◌}
 use native.Mathlib.Omega.{arith}
-use lib.ListN.{length, take, drop, drop_of_length-le}
-use lib.Seq.{sets, sets-eq, take-length}
+use lib.ListN.{length, drop, drop_of_length-le}
+use lib.Seq.{sets, sets-eq}
 
 -- by one store after another
 pub full : (l v : List ℕ) → length l ≡ length v → sets l 0 v ≡ v
@@ -12,7 +12,3 @@ full l v h =
     let e : sets l 0 v ≡ v ++ drop (0 + length v) l = sets-eq v l 0 (omega arith) in
     let n : drop (0 + length v) l ≡ [] = drop_of_length-le l {i = 0 + length v} (omega arith) in
     rw (e, n, append-nil)
-
--- by a copy
-pub copied : (s l : List ℕ) → length l ≡ length s → take (length s) s ++ drop (length s) l ≡ s
-copied s l h = rw (take-length, drop_of_length-le l {i = length s} (omega arith), append-nil)

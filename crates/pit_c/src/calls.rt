@@ -112,7 +112,7 @@ pub extern "C" fn pit_valid(device: &[u8]) -> u32
 }
 
 // Writes a register.
-#[tactic(auto, unfolding(crate::specs::Calls::done, crate::specs::Calls::write_call))]
+#[tactic(auto, unfolding(crate::specs::Calls::done, crate::specs::Calls::write_call, device::specs::Registers::write_of, crate::specs::Layout::device_of))]
 #[unsafe(no_mangle)]
 pub extern "C" fn pit_write(device: &mut [u8], number: u8, value: u8) -> u32
     ensures answer { result ≡ done device.old }
@@ -132,7 +132,7 @@ pub extern "C" fn pit_write(device: &mut [u8], number: u8, value: u8) -> u32
 }
 
 // Reads a register. Only data A and B change the device.
-#[tactic(auto, unfolding(crate::specs::Calls::read_call, crate::specs::Calls::read_answer))]
+#[tactic(auto, unfolding(crate::specs::Calls::read_call, crate::specs::Calls::read_answer, device::specs::Registers::read_of, crate::specs::Layout::device_of))]
 #[unsafe(no_mangle)]
 pub extern "C" fn pit_read(device: &mut [u8], number: u8) -> u32
     ensures answer { result ≡ read_answer device.old number }
@@ -153,7 +153,7 @@ pub extern "C" fn pit_read(device: &mut [u8], number: u8) -> u32
 }
 
 // An outside level comes to a pin.
-#[tactic(auto, unfolding(crate::specs::Calls::done, crate::specs::Calls::pin_call))]
+#[tactic(auto, unfolding(crate::specs::Calls::done, crate::specs::Calls::pin_call, crate::specs::Layout::device_of), using(device::specs::Pins::other_pins))]
 #[unsafe(no_mangle)]
 pub extern "C" fn pit_pin(device: &mut [u8], pin: u8, level: u8) -> u32
     ensures answer { result ≡ done device.old }
@@ -171,7 +171,7 @@ pub extern "C" fn pit_pin(device: &mut [u8], pin: u8, level: u8) -> u32
 
 // Clocks pass, after those that passed before. The numbers of those that open go into the row, as far as it reaches, and how many
 // there were to `opened`.
-#[tactic(auto, unfolding(crate::specs::Calls::clocks_call, gate::specs::Clocking::gate_run, crate::specs::Layout::device_of, crate::specs::Calls::clocks_row, crate::specs::Calls::clocks_opened, crate::specs::Calls::done))]
+#[tactic(auto, unfolding(crate::specs::Calls::done, crate::specs::Calls::clocks_call, crate::specs::Calls::clocks_row, crate::specs::Calls::clocks_opened))]
 #[unsafe(no_mangle)]
 pub extern "C" fn pit_clocks(
     device: &mut [u8],

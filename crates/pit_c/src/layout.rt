@@ -23,8 +23,8 @@ pub(crate) fn number_of(b0: u8, b1: u8, b2: u8, b3: u8) -> u32
 
 // The number of the four bytes from a place on.
 fn number_at(l: &[u8], at: usize) -> u32
-    requires l_len { length l.now ≡ size }
-    requires at_bound { at + 3 < size }
+    requires sized { length l.now ≡ size }
+    requires room { at + 3 < size }
     ensures { result ≡ number_at l.now at }
 {
     number_of(l[at], l[at + 1], l[at + 2], l[at + 3])
@@ -93,9 +93,9 @@ fn bytes_of(d: Device) -> [u8; SIZE]
 
 // A port, whose bytes and its pair's begin at a place, and whose lines' outside levels stand at another.
 fn port_of(l: &[u8], at: usize, outside: usize) -> Port
-    requires l_len { length l.now ≡ size }
-    requires side_size_bound { at + side_size ≤ size }
-    requires outside_lt_size { outside < size }
+    requires sized { length l.now ≡ size }
+    requires room { at + side_size ≤ size }
+    requires outside_within { outside < size }
     ensures { result ≡ port_at l.now at outside }
 {
     Port {
@@ -113,9 +113,9 @@ fn port_of(l: &[u8], at: usize, outside: usize) -> Port
 
 // Its pair, whose pins' outside levels stand at a place of their own.
 fn link_of(l: &[u8], at: usize, levels: usize) -> Link
-    requires l_len { length l.now ≡ size }
-    requires side_size_bound { at + side_size ≤ size }
-    requires levels_bound { levels + 1 < size }
+    requires sized { length l.now ≡ size }
+    requires room { at + side_size ≤ size }
+    requires levels_within { levels + 1 < size }
     ensures { result ≡ link_at l.now at levels }
 {
     Link {
@@ -220,7 +220,9 @@ pub(crate) fn put_device(device: Device, bytes: &mut [u8])
     ensures { bytes.new ≡ bytes_of device }
 {
     let row = bytes_of(device);
-    bytes::copy(&row, bytes);
+    for place in 0..SIZE {
+        bytes[place] = row[place];
+    }
 }
 
 // Puts ports and handshakes into the bytes that are lent, beside the timer and port C that they stand for.

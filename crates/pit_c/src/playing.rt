@@ -22,6 +22,7 @@ fn put_totals(outcome: Outcome, totals: &mut [u64])
 }
 
 // Plays a list. A refusal leaves the device's bytes as they were.
+#[tactic(auto, unfolding(crate::specs::Playing::play_answer, crate::specs::Playing::play_device, crate::specs::Playing::play_answers, crate::specs::Playing::play_openings, crate::specs::Playing::play_totals))]
 #[unsafe(no_mangle)]
 pub extern "C" fn pit_play(
     device: &mut [u8],

@@ -7,8 +7,8 @@ usage: tools/respell.py        at the top, once, right after port.py; rewrites c
 
 It renames what specs/ and proofs/*.antt declare: `withBit` becomes `with_bit`, `read-gate` becomes `read_gate`. A lemma that would get the
 name of a definition gets `_lem`; in Unique.antt, whose theorems are named for functions, it does not. A fact stays a type: a definition
-that is a type keeps its capital. Names of the library, of functions in src/, of registers and pins (PGCR, H12), and strings stay. The
-names that a file has for itself (let, where, arguments) stay, unless they are the same words as a name that is renamed.
+that is a type keeps its capital. Names of the library, of functions in src/, of registers and pins (PGCR, H12), and strings stay. Of
+the names that a file has for itself (let, where, arguments, imports under another name) those in LOCAL are turned too.
 """
 import collections
 import os
@@ -33,6 +33,10 @@ same-length same-way scaled-fits side-by-side sizeOf so-far sourceOf step-keeps 
 there-and-back too-long too-many two-bytes up-to validOf valueAt was-read wayOf with-byte with-first withC withFlags
 wordAt wordOf write-keeps write-moves write-spec writtenOf
 """.split()  # what port.py respelled, for the pages
+LOCAL = """
+resetTimer portCells linkClocks timerRegisters timerOpenings soundLink resetParallel linkValidity linkRead linkLevel lentOpenings lentAnswers
+timerValidity byPin withOutsideC withDirectionC timerAnswer timerAfter soundParallel secondLink portAnswer parallelValidity interruptsOf firstLink
+""".split()  # names that a file gives to what it imports, and arguments
 FACTS = {"soundUnder": "IsSoundUnder", "wellFormed": "IsWellFormed", "allWellFormed": "AllWellFormed"}
 TOKEN = re.compile(r"[^\s(){}\[\];,.:«»\"`]+")
 
@@ -84,6 +88,7 @@ def main():
             to = words(name)
             new[name] = to + "_of" if to in taken and to not in ("first_edge", "with_first", "with_byte") else to
     new.update(FACTS)
+    new.update((name, words(name)) for name in LOCAL)
     given = set(new.values())
     for name in rename:
         if name in new:

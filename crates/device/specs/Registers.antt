@@ -5,7 +5,7 @@ use Rattle.event.specs.Map.{PGCR, PSRR, PADDR, PBDDR, PCDDR, PIVR, PACR, PBCR, P
 use Rattle.event.specs.Map.{TCR, TIVR, CPRH, CNTRH, TSR, number_bytes}
 use Rattle.port.specs.Parts.{with_direction}
 use Rattle.port.specs.declared.Pair.TheVariants.{H12, H34}
-use Rattle.port_c.specs.Parts.{with_direction as withDirectionC, with_latch}
+use Rattle.port_c.specs.Parts.{with_direction as with_direction_c, with_latch}
 use Rattle.port_c.specs.Pins.{data_of}
 use Rattle.timer.specs.Parts.{with_tivr}
 use Rattle.timer.specs.Registers.{byte_of}
@@ -67,7 +67,7 @@ writes d v =
     ∷ at PSRR (with_parallel d (write_psrr p v))
     ∷ at PADDR (with_parallel d (with_ports p (with_direction p.a v) p.b))
     ∷ at PBDDR (with_parallel d (with_ports p p.a (with_direction p.b v)))
-    ∷ at PCDDR (with_gate d (with_c g (withDirectionC g.c v)))
+    ∷ at PCDDR (with_gate d (with_c g (with_direction_c g.c v)))
     ∷ at PIVR (with_parallel d (write_pivr p v))
     ∷ at PACR (with_parallel d (write_control p H12 v))
     ∷ at PBCR (with_parallel d (write_control p H34 v))

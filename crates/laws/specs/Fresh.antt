@@ -14,23 +14,23 @@ use Rattle.port.specs.Control.{mode_of, submode_field, handshake_field, way_of, 
 use Rattle.port.specs.Fresh.{fresh_port, reset_port, fresh_link, reset_link}
 use Rattle.port.specs.Moving.{oldest_of, drawn_of}
 use Rattle.port.specs.Parts.{with_cells, with_outside, with_levels}
-use Rattle.port.specs.Status.{status_in, second_level as linkLevel}
+use Rattle.port.specs.Status.{status_in, second_level as link_level}
 use Rattle.port.specs.declared.Link.{Link}
 use Rattle.port.specs.declared.Pair.{Pair}
 use Rattle.port.specs.declared.Pair.TheVariants.{H12, H34}
 use Rattle.port.specs.declared.Port.{Port}
 use Rattle.port_c.specs.Fresh.{fresh_c, reset_c}
-use Rattle.port_c.specs.Parts.{with_latch, with_outside as withOutsideC}
+use Rattle.port_c.specs.Parts.{with_latch, with_outside as with_outside_c}
 use Rattle.port_c.specs.Pins.{tin, plain_pin, tin_pin, tout_pin, dmareq_pin, pirq_pin, piack_pin, tiack_pin, shown_of, data_of}
 use Rattle.timer.specs.Control.{source_of, function_of}
 use Rattle.timer.specs.Parts.{with_preload, with_count}
-use Rattle.timer.specs.Registers.{byte_of, tout_of, fresh_timer, reset_of as resetTimer}
+use Rattle.timer.specs.Registers.{byte_of, tout_of, fresh_timer, reset_of as reset_timer}
 use Rattle.gate.specs.Fresh.{fresh_gate, reset_gate}
 use Rattle.gate.specs.Parts.{with_timer, with_c}
 use Rattle.parallel.specs.Clocking.{clocked_parallel}
 use Rattle.parallel.specs.Data.{drawn_by, read_data, sent_by, latched_by, write_data}
-use Rattle.parallel.specs.Fresh.{fresh_parallel, reset_of as resetParallel}
-use Rattle.parallel.specs.Interrupts.{first_status_of, second_status_of, statuses_of, enabled_of as interruptsOf, psr_of}
+use Rattle.parallel.specs.Fresh.{fresh_parallel, reset_of as reset_parallel}
+use Rattle.parallel.specs.Interrupts.{first_status_of, second_status_of, statuses_of, enabled_of as interrupts_of, psr_of}
 use Rattle.parallel.specs.Parts.{link_of, with_link, with_ports, with_links, own_port, rules_at}
 use Rattle.parallel.specs.Pins.{pins_of, asserts_of, first_edge, second_edge, with_first, with_second, first_pin, second_pin, parallel_pins, parallel_pinned, second_level}
 use Rattle.parallel.specs.Switching.{write_pgcr, write_psrr, write_control, write_psr}
@@ -40,7 +40,7 @@ use Rattle.device.specs.Clocking.{clocked_device, after}
 use Rattle.device.specs.Events.{effect, made}
 use Rattle.device.specs.Fresh.{fresh_device, reset_of}
 use Rattle.device.specs.Parts.{device_with}
-use Rattle.device.specs.Pinned.{pinned as byPin}
+use Rattle.device.specs.Pinned.{pinned as by_pin}
 use Rattle.device.specs.Pins.{pins_c, pin_of}
 use Rattle.device.specs.Registers.{read_of, writes, write_of}
 use Rattle.device.specs.declared.Device.{Device}
@@ -54,25 +54,25 @@ fresh_bytes = at PIVR 0x0f ∷ at TIVR 0x0f ∷ at PAAR 0xff ∷ at PBAR 0xff �
 pub fresh_reads : (r : ℕ) → r < 32 → (read_of fresh_device r).byte ≡ find fresh_bytes 0 r
 unfolding
     read_of fresh_device fresh_parallel fresh_port fresh_link fresh_gate fresh_c fresh_timer bit_of field_of chosen_of packed_of byte_of source_of function_of tout_of
-    mode_of submode_field handshake_field way_of handshake_of enabled_of first_sense second_sense rules_of oldest_of status_in linkLevel link_of with_link own_port rules_at
-    pins_of read_data drawn_by drawn_of first_status_of second_status_of statuses_of interruptsOf psr_of second_level dma_of enabled_in plain_pin tin_pin tout_pin dmareq_pin pirq_pin piack_pin tiack_pin shown_of
-    data_of pins_c
+    mode_of submode_field handshake_field way_of handshake_of enabled_of first_sense second_sense rules_of oldest_of status_in link_level link_of with_link own_port rules_at
+    pins_of read_data drawn_by drawn_of first_status_of second_status_of statuses_of interrupts_of psr_of second_level dma_of enabled_in plain_pin tin_pin tout_pin dmareq_pin pirq_pin piack_pin
+    tiack_pin shown_of data_of pins_c
 fresh_reads r l = eqb-true _ _ (any_below 32 (λ r. eqb (read_of fresh_device r).byte (find fresh_bytes 0 r)) refl r l)
 
 -- the outside level that is remembered of each of the 28 pins
 unfoldable pub outside_of : Device → ℕ → Bool
 outside_of d =
     let p = d.parallel in
-    byPin (bit_of p.a.outside) (bit_of p.b.outside) (bit_of d.gate.c.outside) p.h12.level1 p.h12.level2 p.h34.level1 p.h34.level2 false
+    by_pin (bit_of p.a.outside) (bit_of p.b.outside) (bit_of d.gate.c.outside) p.h12.level1 p.h12.level2 p.h34.level1 p.h34.level2 false
 
 -- 02, R-6: 'A fresh device should hold PC2's outside level low and all other levels high.'
 pub fresh_levels : (n : ℕ) → n < 28 → outside_of fresh_device n ≡ not (eqb n (PC0 + tin))
-unfolding outside_of byPin fresh_device fresh_parallel fresh_port fresh_link fresh_gate fresh_c bit_of
+unfolding outside_of by_pin fresh_device fresh_parallel fresh_port fresh_link fresh_gate fresh_c bit_of
 fresh_levels n l = beq_true _ _ (any_below 28 (λ n. beq (outside_of fresh_device n) (not (eqb n (PC0 + tin)))) refl n l)
 
 -- Reset keeps every outside level, PC2's too, of every device.
 pub reset_levels : (d : Device) (n : ℕ) → outside_of (reset_of d) n ≡ outside_of d n
-unfolding outside_of reset_of resetParallel reset_port reset_link reset_gate reset_c
+unfolding outside_of reset_of reset_parallel reset_port reset_link reset_gate reset_c
 reset_levels d n = refl
 
 -- a port and a pair with another's data latches, last byte read and outside levels
@@ -96,12 +96,12 @@ keeping d fresh =
     (keeping_link p.h34 q.h34))
     (with_c
     (with_timer h (with_count (with_preload h.timer g.timer.preload.0) g.timer.count))
-    (withOutsideC (with_latch h.c g.c.latch) g.c.outside))
+    (with_outside_c (with_latch h.c g.c.latch) g.c.outside))
 
 -- Reset makes the part fresh, 'but keeps data latches, the last byte read, preload, counter and outside levels'.
 pub reset_keeps : (d : Device) → reset_of d ≡ keeping d fresh_device
 unfolding
-    reset_of resetParallel reset_port reset_link reset_gate reset_c resetTimer fresh_device fresh_parallel fresh_port fresh_link fresh_gate fresh_c fresh_timer
+    reset_of reset_parallel reset_port reset_link reset_gate reset_c reset_timer fresh_device fresh_parallel fresh_port fresh_link fresh_gate fresh_c fresh_timer
 reset_keeps d = refl
 
 -- PIVR holds what reset leaves
@@ -203,7 +203,7 @@ AllPivrUnwritten [] = Unit {0}
 AllPivrUnwritten (e ∷ es) = PivrUnwritten e × AllPivrUnwritten es
 
 still_unset : (d : Device) (k : ℕ) (e : Event) → PivrUnwritten e → Unset d.parallel → Unset (effect d k e).device.parallel
-unfolding effect reset_of resetParallel
+unfolding effect reset_of reset_parallel
 still_unset d k (Write r v) u h = written d h r v u
 still_unset d k (Read r) u h = any_read Unset d r h (λ _. data_read_lem d.parallel h H12) (λ _. data_read_lem d.parallel h H34)
 still_unset d k PortAcknowledge u h = h

@@ -7,7 +7,7 @@ use Rattle.bits.specs.Trying.{any_below}
 use Rattle.interrupt.specs.Answering.{reset_vector}
 use Rattle.port.specs.Control.{first_sense, second_sense, rules_of, inputs_of, outputs_of}
 use Rattle.port.specs.Parts.{with_levels}
-use Rattle.port.specs.Validity.{sound_of as soundLink}
+use Rattle.port.specs.Validity.{sound_of as sound_link}
 use Rattle.port.specs.declared.Pair.{Pair}
 use Rattle.port.specs.declared.Pair.TheVariants.{H12, H34}
 use Rattle.port.specs.declared.Port.{Port}
@@ -37,8 +37,8 @@ unfolding sound_of rules_at link_of
 sound_in p h =
     let psrr = not (bit_of p.psrr 7) in
     let pivr = eqb (bit_and p.pivr 3) 0 || eqb p.pivr reset_vector in
-    let one = soundLink p.h12 (rules_of H12 p.pgcr p.h12.control) in
-    let two = soundLink p.h34 (rules_of H34 p.pgcr p.h34.control) in
+    let one = sound_link p.h12 (rules_of H12 p.pgcr p.h12.control) in
+    let two = sound_link p.h34 (rules_of H34 p.pgcr p.h34.control) in
     let three : (psrr && pivr && one) ≡ true = and_left _ two h in
     let registers : (psrr && pivr) ≡ true = and_left _ one three in
     record {

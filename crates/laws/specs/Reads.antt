@@ -9,8 +9,8 @@ use Rattle.event.specs.declared.Event.TheVariants.{PortAcknowledge, TimerAcknowl
 use Rattle.port.specs.Control.{inputs_of, rules_of}
 use Rattle.port.specs.Moving.{removed_of, drawn_of}
 use Rattle.port.specs.Handshaking.{ready_of}
-use Rattle.port.specs.Data.{counted_of, read_count, read_of as linkRead}
-use Rattle.port.specs.Parts.{with_held, with_strobe, with_cells as portCells}
+use Rattle.port.specs.Data.{counted_of, read_count, read_of as link_read}
+use Rattle.port.specs.Parts.{with_held, with_strobe, with_cells as port_cells}
 use Rattle.port.specs.declared.Link.{Link}
 use Rattle.port.specs.declared.Rules.{Rules}
 use Rattle.port.specs.declared.Pair.TheVariants.{H12, H34}
@@ -44,7 +44,7 @@ unfolding read_of
 alternate_b_read d = refl
 
 -- a data read moves its pair's count and handshake alone
-read_moves : (l : Link) (rules : Rules) → linkRead l rules ≡ with_strobe (with_held l (linkRead l rules).held) (linkRead l rules).strobe
+read_moves : (l : Link) (rules : Rules) → link_read l rules ≡ with_strobe (with_held l (link_read l rules).held) (link_read l rules).strobe
 unfolding counted_of
 read_moves l rules =
     let n = read_count rules.way l.held in
@@ -52,10 +52,10 @@ read_moves l rules =
 
 -- A read of data A changes port A's cells and the count and the handshake of H1 and H2 alone, and one of data B those of B, H3 and H4.
 abbrev pub OnlyA : Parallel → Parallel → Type 0
-OnlyA p q = q ≡ with_links (with_ports p (portCells p.a q.a.cells) p.b) (with_strobe (with_held p.h12 q.h12.held) q.h12.strobe) p.h34
+OnlyA p q = q ≡ with_links (with_ports p (port_cells p.a q.a.cells) p.b) (with_strobe (with_held p.h12 q.h12.held) q.h12.strobe) p.h34
 
 abbrev pub OnlyB : Parallel → Parallel → Type 0
-OnlyB p q = q ≡ with_links (with_ports p p.a (portCells p.b q.b.cells)) p.h12 (with_strobe (with_held p.h34 q.h34.held) q.h34.strobe)
+OnlyB p q = q ≡ with_links (with_ports p p.a (port_cells p.b q.b.cells)) p.h12 (with_strobe (with_held p.h34 q.h34.held) q.h34.strobe)
 
 pub data_a_read : (d : Device) → OnlyA d.parallel (read_of d PADR).device.parallel
 unfolding read_of read_data drawn_by drawn_of with_link rules_at rules_of own_port link_of

@@ -15,7 +15,7 @@ use Rattle.gate.specs.Registers.{write_tcr, write_preload, write_tsr}
 use Rattle.gate.specs.Validity.{sound_gate}
 use Rattle.gate.specs.declared.Gate.{Gate}
 use Rattle.parallel.specs.Pins.{parallel_pins, parallel_pinned}
-use Rattle.parallel.specs.Validity.{sound_of as soundParallel}
+use Rattle.parallel.specs.Validity.{sound_of as sound_parallel}
 use Rattle.parallel.specs.declared.Parallel.{Parallel}
 use Rattle.device.specs.Parts.{with_parallel, with_gate}
 use Rattle.device.specs.Fresh.{fresh_device, reset_of}
@@ -39,7 +39,7 @@ pub valid_in : (d : Device) → valid_of d ≡ true → Valid d
 unfolding valid_of sound_gate
 valid_in d h = record {
   parallel = parallels.sound_in d.parallel (and_left _ (sound_gate d.gate) h);
-  gate = timers.sound_in d.gate.timer (tin_level d.gate.c) (and_right (soundParallel d.parallel) _ h);
+  gate = timers.sound_in d.gate.timer (tin_level d.gate.c) (and_right (sound_parallel d.parallel) _ h);
 }
 
 pub valid_out : (d : Device) → Valid d → valid_of d ≡ true

@@ -3,7 +3,7 @@
 use Rattle.std.specs.Prelude.{ℕ, ◌≡◌, refl}
 use Rattle.std.proofs.Math.Bool.{and-true, and-false}
 use Rattle.bits.specs.Choice.{both_arms}
-use Rattle.port.specs.Parts.{with_cells as portCells}
+use Rattle.port.specs.Parts.{with_cells as port_cells}
 use Rattle.port.specs.Moving.{moved_of, drawn_of, put_of}
 use Rattle.port.specs.Control.{rules_of, inputs_of, outputs_of}
 use Rattle.port.specs.Buffers.{buffer, buffer_edge, buffer_read, buffer_written}
@@ -21,8 +21,8 @@ buffer_of p pair = buffer (own_port p pair).cells (link_of p pair)
 
 -- A's cells with H1 and H2, B's with H3 and H4
 unfoldable pub with_buffer : Parallel → Pair → Buffer → Parallel
-with_buffer p H12 b = parallel_with p p.pgcr p.psrr p.pivr (portCells p.a b.cells) p.b b.link p.h34
-with_buffer p H34 b = parallel_with p p.pgcr p.psrr p.pivr p.a (portCells p.b b.cells) p.h12 b.link
+with_buffer p H12 b = parallel_with p p.pgcr p.psrr p.pivr (port_cells p.a b.cells) p.b b.link p.h34
+with_buffer p H34 b = parallel_with p p.pgcr p.psrr p.pivr p.a (port_cells p.b b.cells) p.h12 b.link
 
 -- an asserted edge of the first pin,
 pub edge_moves : (p : Parallel) (pair : Pair) → first_edge p pair ≡ with_buffer p pair (buffer_edge (buffer_of p pair) (rules_at p pair) (pins_of p pair))

@@ -1,7 +1,7 @@
 -- Ports and pairs with one part changed, a pair by its name, its own port, and what the registers say of it.
 use Rattle.std.specs.Prelude.{ℕ}
 use Rattle.port.specs.Control.{rules_of}
-use Rattle.port.specs.Parts.{with_cells as portCells}
+use Rattle.port.specs.Parts.{with_cells as port_cells}
 use Rattle.port.specs.declared.Pair.{Pair}
 use Rattle.port.specs.declared.Pair.TheVariants.{H12, H34}
 use Rattle.port.specs.declared.Cells.{Cells}
@@ -25,7 +25,7 @@ abbrev pub with_links : Parallel → Link → Link → Parallel
 with_links p one two = parallel_with p p.pgcr p.psrr p.pivr p.a p.b one two
 
 abbrev pub with_cells : Parallel → Cells → Cells → Parallel
-with_cells p a b = with_ports p (portCells p.a a) (portCells p.b b)
+with_cells p a b = with_ports p (port_cells p.a a) (port_cells p.b b)
 
 -- a pair
 unfoldable pub link_of : Parallel → Pair → Link

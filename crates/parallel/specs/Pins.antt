@@ -9,8 +9,8 @@ use Rattle.port.specs.Control.{first_sense, second_sense}
 use Rattle.port.specs.Moving.{moved_of}
 use Rattle.port.specs.Handshaking.{accepts_of}
 use Rattle.port.specs.Parts.{with_outside, with_levels}
-use Rattle.port.specs.Edges.{first_edge as firstLink, second_edge as secondLink}
-use Rattle.port.specs.Status.{second_level as linkLevel}
+use Rattle.port.specs.Edges.{first_edge as first_link, second_edge as second_link}
+use Rattle.port.specs.Status.{second_level as link_level}
 use Rattle.port.specs.declared.Pair.{Pair}
 use Rattle.port.specs.declared.Pair.TheVariants.{H12, H34}
 use Rattle.parallel.specs.Parts.{link_of, with_link, with_ports, own_port, with_cells, rules_at}
@@ -38,11 +38,11 @@ first_edge p pair =
     (moved_of (on && (rules_at p pair).a) (rules_at p pair).way link.held p.a.cells (pins_of p H12))
     (moved_of (on && (rules_at p pair).b) (rules_at p pair).way link.held p.b.cells (pins_of p H34)))
     pair
-    (firstLink link (rules_at p pair))
+    (first_link link (rules_at p pair))
 
 -- an asserted edge of H2 or H4
 unfoldable pub second_edge : Parallel → Pair → Parallel
-second_edge p pair = with_link p pair (secondLink (link_of p pair) (rules_at p pair))
+second_edge p pair = with_link p pair (second_link (link_of p pair) (rules_at p pair))
 
 -- the first or the second pin of a pair at an outside level
 unfoldable pub with_first : Parallel → Pair → Bool → Parallel
@@ -79,4 +79,4 @@ parallel_pinned p pin level = find (parallel_pins p level) p pin
 
 -- the level of H2 or H4, with its sense bit of PGCR
 unfoldable pub second_level : Parallel → Pair → Bool
-second_level p pair = linkLevel (link_of p pair) (rules_at p pair) (second_sense pair p.pgcr)
+second_level p pair = link_level (link_of p pair) (rules_at p pair) (second_sense pair p.pgcr)

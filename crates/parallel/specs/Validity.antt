@@ -3,7 +3,7 @@ use Rattle.std.specs.Prelude.{Bool, not, ◌&&◌, ◌||◌, eqb}
 use Rattle.std.specs.Int.Bits.{bit_and}
 use Rattle.bits.specs.Field.{bit_of}
 use Rattle.interrupt.specs.Answering.{reset_vector}
-use Rattle.port.specs.Validity.{sound_of as soundLink}
+use Rattle.port.specs.Validity.{sound_of as sound_link}
 use Rattle.port.specs.declared.Pair.TheVariants.{H12, H34}
 use Rattle.parallel.specs.Parts.{rules_at}
 use Rattle.parallel.specs.declared.Parallel.{Parallel}
@@ -13,5 +13,5 @@ unfoldable pub sound_of : Parallel → Bool
 sound_of p =
     not (bit_of p.psrr 7)
     && (eqb (bit_and p.pivr 3) 0 || eqb p.pivr reset_vector)
-    && soundLink p.h12 (rules_at p H12)
-    && soundLink p.h34 (rules_at p H34)
+    && sound_link p.h12 (rules_at p H12)
+    && sound_link p.h34 (rules_at p H34)

@@ -17,7 +17,7 @@ use Rattle.std.specs.Prelude.{if◌then◌else◌}
 use Rattle.bits.specs.Choice.{and_left, and_right}
 use Rattle.bits.specs.Field.{with_bit}
 use Rattle.port.specs.Buffers.{buffer_edge, buffer_written}
-use Rattle.port.specs.Clocking.{untimed_of, clocks_of as linkClocks}
+use Rattle.port.specs.Clocking.{untimed_of, clocks_of as link_clocks}
 use Rattle.port.specs.Control.{first_sense}
 use Rattle.port.specs.ManyClocks.{untimed_stays}
 use Rattle.port.specs.Parts.{with_outside}
@@ -294,10 +294,10 @@ module _ {t : Tally} {A R : List ℕ} where
 
 -- both handshakes after clocks, where a wait or a pulse runs,
 pub stepped : (p : Parallel) (n : ℕ) {one two : Link} {r s : Rules} {x : Parallel}
-    → r ≡ rules_at p H12 → one ≡ linkClocks n p.h12 r → s ≡ rules_at p H34 → two ≡ linkClocks n p.h34 s → x ≡ with_links p one two → x ≡ clocks_of n p
+    → r ≡ rules_at p H12 → one ≡ link_clocks n p.h12 r → s ≡ rules_at p H34 → two ≡ link_clocks n p.h34 s → x ≡ with_links p one two → x ≡ clocks_of n p
 unfolding clocks_of
 stepped p n er eo es et ex =
-    ex ∙ (λ i. with_links p ((eo ∙ ap (linkClocks n p.h12) er) i) ((et ∙ ap (linkClocks n p.h34) es) i))
+    ex ∙ (λ i. with_links p ((eo ∙ ap (link_clocks n p.h12) er) i) ((et ∙ ap (link_clocks n p.h34) es) i))
 
 -- and where none does
 pub standing : (p : Parallel) (n : ℕ) {one two : Bool} → one ≡ untimed_of p.h12 → two ≡ untimed_of p.h34 → not (one && two) ≡ false → p ≡ clocks_of n p

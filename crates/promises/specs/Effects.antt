@@ -27,9 +27,9 @@ abbrev pub stored : Result → List ℕ
 stored x = take x.outcome.openings x.openings
 
 -- past what x used, its bytes and its row are those that were lent
-pub record RestsKept (lentAnswers lentOpenings : List ℕ) (x : Result) : Type 0 where
-  pub bytes : drop x.outcome.answers x.answers ≡ drop x.outcome.answers lentAnswers
-  pub row : drop x.outcome.openings x.openings ≡ drop x.outcome.openings lentOpenings
+pub record RestsKept (lent_answers lent_openings : List ℕ) (x : Result) : Type 0 where
+  pub bytes : drop x.outcome.answers x.answers ≡ drop x.outcome.answers lent_answers
+  pub row : drop x.outcome.openings x.openings ≡ drop x.outcome.openings lent_openings
 
 module _ (s : List ℕ) (d : Device) (answers openings : List ℕ) where
   abbrev call : Result

@@ -10,7 +10,7 @@ use Rattle.port.specs.Edges as edges
 use Rattle.port.specs.Switching.{begins_of, pgcr_written, control_written}
 use Rattle.port.specs.Status.{status_in}
 use Rattle.port.specs.Fresh.{fresh_port, fresh_link}
-use Rattle.port.specs.Validity as linkValidity
+use Rattle.port.specs.Validity as link_validity
 use Rattle.port_c.specs.Fresh.{fresh_c}
 use Rattle.port_c.specs.Pins.{tin_level}
 use Rattle.interrupt.specs.Enabling.{dma_of, enabled_in}
@@ -19,8 +19,8 @@ use Rattle.interrupt.specs.Answering.{offset_of, vector_of, answer_of, acknowled
 use Rattle.timer.specs.Control.{source_of, runs_of, by_rises, clock_steps}
 use Rattle.timer.specs.Counting.{scaled_of, at_zero_of, count_of, step_of}
 use Rattle.timer.specs.Running.{tin_goes, takes_rise, risen_of, clocked_timer}
-use Rattle.timer.specs.Registers as timerRegisters
-use Rattle.timer.specs.Validity as timerValidity
+use Rattle.timer.specs.Registers as timer_registers
+use Rattle.timer.specs.Validity as timer_validity
 use Rattle.wire.specs.Field.{field_at}
 use Rattle.wire.specs.Next.{size_of, close_at, pin_or_refusal, event_at, next_at}
 use Rattle.wire.specs.List.{parse, rest}
@@ -35,7 +35,7 @@ use Rattle.parallel.specs.Switching.{write_pgcr, write_psrr, write_pivr, write_c
 use Rattle.parallel.specs.Interrupts as interrupts
 use Rattle.parallel.specs.Clocking.{clocked_parallel, clocks_of}
 use Rattle.parallel.specs.Fresh.{fresh_parallel}
-use Rattle.parallel.specs.Validity as parallelValidity
+use Rattle.parallel.specs.Validity as parallel_validity
 use Rattle.device.specs.Fresh.{fresh_device}
 use Rattle.device.specs.Pins.{pin_of}
 use Rattle.device.specs.Registers.{read_of, write_of}
@@ -76,12 +76,13 @@ unfolding
     play_of valid_of made effect
     parse rest next_at event_at close_at pin_or_refusal size_of field_at
     bit_of field_of
-    source_of runs_of timerValidity.sound_of timerValidity.rests_of timerRegisters.fresh_timer timerRegisters.switched_of timerRegisters.controlled_of timerRegisters.preloaded_of timerRegisters.with_byte
+    source_of runs_of timer_validity.sound_of timer_validity.rests_of timer_registers.fresh_timer timer_registers.switched_of timer_registers.controlled_of timer_registers.preloaded_of
+    timer_registers.with_byte
     mode_of submode_field handshake_field way_of handshake_of enabled_of first_sense second_sense rules_of movable_of stored_count stored_of shifted_of moved_of moved_count status_in
-    linkValidity.sound_of linkValidity.ranges_of linkValidity.allowed_of linkValidity.strobed_of
+    link_validity.sound_of link_validity.ranges_of link_validity.allowed_of link_validity.strobed_of
     edges.restarted_of edges.flushed_of edges.first_edge edges.second_edge readied_of begins_of pgcr_written control_written fresh_port fresh_link
     link_of with_link own_port rules_at pins.pins_of pins.asserts_of pins.first_edge pins.second_edge pins.with_first pins.with_second pins.first_pin pins.second_pin pins.parallel_pinned
-    write_pgcr write_psrr write_pivr write_control fresh_parallel parallelValidity.sound_of
+    write_pgcr write_psrr write_pivr write_control fresh_parallel parallel_validity.sound_of
     tin_level fresh_c fresh_gate write_tcr write_preload sound_gate tin_goes by_rises tin_event line_event with_bit
     fresh_device read_of write_of gate_pinned pin_of
     dma_of enabled_in orders ranked_of flag_of first_of highest_of offset_of vector_of answer_of acknowledge_of

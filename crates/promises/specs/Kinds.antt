@@ -13,7 +13,7 @@ use Rattle.event.specs.Map.{TCR}
 use Rattle.port_c.specs.Pins.{tin_level}
 use Rattle.timer.specs.Control.{tcr_bits, source_of, rolls_of, runs_of, by_rises, clock_steps}
 use Rattle.timer.specs.Parts.{with_zds}
-use Rattle.timer.specs.Registers.{switched_of, controlled_of, cleared_of, preloaded_of, reset_of as resetTimer}
+use Rattle.timer.specs.Registers.{switched_of, controlled_of, cleared_of, preloaded_of, reset_of as reset_timer}
 use Rattle.timer.specs.Running.{tin_goes}
 use Rattle.timer.specs.declared.Timer.{Timer}
 use Rattle.clocks.specs.Kept.{after_keeps}
@@ -158,7 +158,7 @@ module _ (d : Device) where
 
     -- what leaves a halted gate running is one of them
     kind-of : (e : Event) → Byte e → Running (followed d.gate e) → Start d e
-    unfolding clock_steps runs_of bit_of reset_gate resetTimer
+    unfolding clock_steps runs_of bit_of reset_gate reset_timer
     kind-of (Write r v) byte run = write-kind r v byte run
     kind-of (Read r) byte run = same-rests d.gate refl refl run
     kind-of PortAcknowledge byte run = same-rests d.gate refl refl run

@@ -11,7 +11,7 @@ use Rattle.port_c.specs.Pins.{tin_level}
 use Rattle.timer.specs.Control.{tcr_bits, rolls_of, runs_of, by_rises}
 use Rattle.timer.specs.Parts.{with_tcr, with_zds, with_rise}
 use Rattle.timer.specs.Running.{halted_of, tin_goes}
-use Rattle.timer.specs.Registers.{with_byte, switched_of, controlled_of, cleared_of, preloaded_of, reset_of as resetTimer}
+use Rattle.timer.specs.Registers.{with_byte, switched_of, controlled_of, cleared_of, preloaded_of, reset_of as reset_timer}
 use Rattle.timer.specs.declared.Timer.{Timer}
 use Rattle.clocks.specs.Counts.{lowers_of}
 use Rattle.clocks.specs.NeverOpens.{Barren, due_barren, never_opens, still_barren}
@@ -75,7 +75,7 @@ write_barren g r v f b =
 
 -- a barren gate stays so, and nothing opens it
 gate_barren : (e : Event) (g : Gate) (k : ℕ) → Fruitless e → Barren g.timer → Barren (followed g e).timer × (opens_by g k e ≡ [])
-unfolding tin_event reset_gate resetTimer bit_of
+unfolding tin_event reset_gate reset_timer bit_of
 gate_barren (Write r v) g k f b = (write_barren g r v f b, refl)
 gate_barren (Read r) g k f b = (b, refl)
 gate_barren PortAcknowledge g k f b = (b, refl)
@@ -83,7 +83,7 @@ gate_barren TimerAcknowledge g k f b = (b, refl)
 gate_barren (Pin n level) g k f b =
     (any_gate_pin (λ (x : Gate). Barren x.timer) g n level (λ x a. rw a.timer b) (λ _. barren_tin g.timer (tin_level g.c) level b), refl)
 gate_barren (Clocks n) g k f b = (still_barren (tin_level g.c) n g.timer b, never_opens (tin_level g.c) n k g.timer b)
-gate_barren Reset g k f b = (due_barren (resetTimer g.timer) refl b.preload refl, refl)
+gate_barren Reset g k f b = (due_barren (reset_timer g.timer) refl b.preload refl, refl)
 
 -- With reload and preload 0 throughout nothing opens, whatever the source and whatever else happens; a kept 1 opens nothing where a
 -- load is due.

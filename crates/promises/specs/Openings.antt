@@ -11,7 +11,7 @@ use Rattle.timer.specs.Control.{tcr_bits, source_of, runs_of, by_rises, clock_st
 use Rattle.timer.specs.Counting.{scaled_of, count_of, step_of, quiet}
 use Rattle.timer.specs.Parts.{with_prescaler, with_zds, with_rise}
 use Rattle.timer.specs.Running.{tin_goes, risen_of, takes_rise, clocked_timer, mark}
-use Rattle.timer.specs.Registers.{switched_of, controlled_of, cleared_of, preloaded_of, reset_of as resetTimer}
+use Rattle.timer.specs.Registers.{switched_of, controlled_of, cleared_of, preloaded_of, reset_of as reset_timer}
 use Rattle.timer.specs.declared.Timer.{Timer}
 use Rattle.timer.specs.declared.Counted.{Counted}
 use Rattle.clocks.specs.Numbers.{Rising, openings_rise, rising_append}
@@ -158,7 +158,7 @@ clocks_moments zero d k = refl
 clocks_moments (suc n) d k = rw (clocks_moments n (clocked_device d).device (k + 1), ← (clock_opens (tin_level d.gate.c) d.gate.timer), add-one)
 
 single_moments : (e : Event) (d : Device) (k : ℕ) → moments d k (single e) ≡ (effect d k e).openings
-unfolding moments effect reset_of reset_gate resetTimer
+unfolding moments effect reset_of reset_gate reset_timer
 single_moments (Write r v) d k = rw (← (write_keeps d r v))
 single_moments (Read r) d k = rw (← (read_keeps d r))
 single_moments PortAcknowledge d k = rw (← (kept d.gate.timer))

@@ -21,13 +21,13 @@ use Rattle.play.specs.Play.{Result, refusal, acceptance, settle, play_of}
 use Rattle.survey.specs.Needed.{answers_needed}
 
 -- 'A refused call returns number, place, zero answers, openings and clocks, and the device it was given; nothing lent is written.'
-pub record Untouched (d : Device) (lentAnswers lentOpenings : List ℕ) (x : Result) : Type 0 where
+pub record Untouched (d : Device) (lent_answers lent_openings : List ℕ) (x : Result) : Type 0 where
   pub device : x.outcome.device ≡ d
   pub no_answers : x.outcome.answers ≡ 0
   pub no_openings : x.outcome.openings ≡ 0
   pub no_clocks : x.outcome.clocks ≡ 0
-  pub lent_bytes : x.answers ≡ lentAnswers
-  pub lent_row : x.openings ≡ lentOpenings
+  pub lent_bytes : x.answers ≡ lent_answers
+  pub lent_row : x.openings ≡ lent_openings
 
 module _ (s : List ℕ) (d : Device) (answers openings : List ℕ) where
   abbrev call : Result

@@ -16,7 +16,7 @@ use Rattle.port_c.specs.Pins.{tin, tin_level}
 use Rattle.timer.specs.Control.{tcr_bits, source_of, runs_of, by_rises}
 use Rattle.timer.specs.Parts.{with_tcr, with_rise}
 use Rattle.timer.specs.Counting.{full}
-use Rattle.timer.specs.Registers.{switched_of, controlled_of, cleared_of, preloaded_of, acknowledge_of, reset_of as resetTimer}
+use Rattle.timer.specs.Registers.{switched_of, controlled_of, cleared_of, preloaded_of, acknowledge_of, reset_of as reset_timer}
 use Rattle.timer.specs.Running.{risen_of, mark}
 use Rattle.timer.specs.Validity.{rests_of}
 use Rattle.timer.specs.declared.Timer.{Timer}
@@ -297,7 +297,7 @@ switch_drops t v tin other =
 
 module _ (d : Device) (k : ℕ) where
   event_drops : {e : Event} → Drops d e → effect d k e ≡ effect (unheld d) k e
-  unfolding effect write_of write_tcr reset_of reset_gate resetTimer tin_level
+  unfolding effect write_of write_tcr reset_of reset_gate reset_timer tin_level
   event_drops (halt v byte off) =
       let tin = tin_level d.gate.c in
       let halts : runs_of (bit_and v tcr_bits) tin ≡ false = off_halts (bit_and v tcr_bits) tin ((tcr_holds v byte).0 ∙ off) in

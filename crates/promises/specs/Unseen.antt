@@ -18,7 +18,7 @@ use Rattle.port_c.specs.Fresh.{reset_c}
 use Rattle.port_c.specs.Pins.{tin, tin_level}
 use Rattle.timer.specs.Control.{tcr_bits, source_of, runs_of, clock_steps}
 use Rattle.timer.specs.Parts.{with_zds}
-use Rattle.timer.specs.Registers.{controlled_of, preloaded_of, cleared_of, reset_of as resetTimer}
+use Rattle.timer.specs.Registers.{controlled_of, preloaded_of, cleared_of, reset_of as reset_timer}
 use Rattle.timer.specs.Running.{takes_rise, clocked_timer, after, openings, mark}
 use Rattle.timer.specs.declared.Timer.{Timer}
 use Rattle.clocks.specs.Kept.{after_keeps}
@@ -170,7 +170,7 @@ module _ (g h : Gate) (same : ButTin g h) where
 
   -- an event with source 00 leaves them so,
   then_but_tin : (e : Event) → OnClk e → ButTin (followed g e) (followed h e)
-  unfolding reset_gate reset_c resetTimer source_of field_of
+  unfolding reset_gate reset_c reset_timer source_of field_of
   then_but_tin (Write r v) clk = written r v clk
   then_but_tin (Read r) clk = same
   then_but_tin PortAcknowledge clk = same

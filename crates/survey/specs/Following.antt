@@ -4,7 +4,7 @@ use Rattle.std.proofs.Common.{sym, ap, ◌∙◌, add-zero, zero-add, add_assoc,
 use Rattle.event.specs.declared.Event.{Event}
 use Rattle.event.specs.declared.Event.TheVariants.{Write, Read, PortAcknowledge, TimerAcknowledge, Pin, Clocks, Reset}
 use Rattle.port_c.specs.Pins.{tin_level}
-use Rattle.timer.specs.Running.{clocked_timer, openings as timerOpenings, mark}
+use Rattle.timer.specs.Running.{clocked_timer, openings as timer_openings, mark}
 use Rattle.timer.specs.declared.Timer.{Timer}
 use Rattle.clocks.specs.Numbers.{at_most}
 use Rattle.gate.specs.declared.Gate.{Gate}
@@ -16,8 +16,8 @@ use Rattle.device.specs.declared.Device.{Device}
 use Rattle.survey.specs.Survey.{opened_by}
 
 -- how many of n clocks open, from whichever number they are counted on
-same_many : (level : Bool) (n k j : ℕ) (t : Timer) → length (timerOpenings level n k t) ≡ length (timerOpenings level n j t)
-unfolding timerOpenings
+same_many : (level : Bool) (n k j : ℕ) (t : Timer) → length (timer_openings level n k t) ≡ length (timer_openings level n j t)
+unfolding timer_openings
 same_many level zero k j t = refl
 same_many level (suc n) k j t =
     marked (clocked_timer level t).opened _ _ (same_many level n (suc k) (suc j) (clocked_timer level t).timer)

@@ -52,5 +52,6 @@ pub overflow_add-clocks : goal.overflow_add-clocks
 overflow_add-clocks c =
     let l = c.loop-next in
     let x = summed c.args.list.now l.answers l.clocks l.at l.invariant c.word_at-word.result (c.word_at-word.ensures.tells c.if-list-gt-MOST_BYTES.false)
-    c.if-kind-ge-END.false c.event_of-event.result c.size_of-at.result c.event_of-event.ensures c.size_of-at.ensures.0 c.answers_in-answers.result c.clocks_in-clocks.result c.answers_in-answers.ensures c.clocks_in-clocks.ensures in
+    c.if-kind-ge-END.false c.event_of-event.result c.size_of-at.result c.event_of-event.ensures c.size_of-at.ensures.0
+    c.answers_in-answers.result c.clocks_in-clocks.result c.answers_in-answers.ensures c.clocks_in-clocks.ensures in
     omega (arith, x.few, x.clocks)

@@ -48,7 +48,7 @@ pick_native() {
 
 # Builds the library, which proves it, unless a passed build of the same sources left it.
 library() {
-    [ -n "${PIT_LIBRARY-}" ] || provide "$LIBRARY" pit_c staticlib
+    [ -n "${PIT_LIBRARY-}" ] || provide "$LIBRARY" pit_c
 }
 
 # For programs that are linked with the library.

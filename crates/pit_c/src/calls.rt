@@ -9,7 +9,9 @@ ghost use Rattle.pit_c.specs.Calls.{done, fresh_call, valid_answer, write_call, 
 ghost use Rattle.pit_c.specs.Calls.{clocks_call, clocks_row, clocks_opened, reset_call};
 ghost use Rattle.pit_c.specs.Calls.{answer_number, port_acknowledge_answer, timer_acknowledge_answer, levels_of, levels_answer};
 
-use crate::layout::{SIZE, device_of, gate_of, number_of, parallel_of, put_device, put_parallel};
+use crate::layout::{
+    SIZE, device_of, gate_of, number_of, parallel_of, put_device, put_parallel, put_whole,
+};
 use device::Device;
 use event::{Answer, map};
 use gate::Gate;
@@ -125,7 +127,7 @@ pub extern "C" fn pit_write(device: &mut [u8], number: u8, value: u8) -> u32
         map::PADR => write_data(device, Pair::H12, value),
         map::PBDR => write_data(device, Pair::H34, value),
         _ => {
-            put_device(device_of(device).write(number, value), device);
+            put_whole(device_of(device).write(number, value), device);
             0
         }
     }

@@ -225,6 +225,15 @@ pub(crate) fn put_device(device: Device, bytes: &mut [u8])
     }
 }
 
+// The same, for calls that work longer than storing takes: one copy of the code, and of its constants, serves them.
+#[inline(never)]
+pub(crate) fn put_whole(device: Device, bytes: &mut [u8])
+    requires { length bytes.old ≡ size }
+    ensures { bytes.new ≡ bytes_of device }
+{
+    put_device(device, bytes);
+}
+
 // Puts ports and handshakes into the bytes that are lent, beside the timer and port C that they stand for.
 pub(crate) fn put_parallel(parallel: Parallel, bytes: &mut [u8])
     requires { length bytes.old ≡ size }

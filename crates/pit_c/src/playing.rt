@@ -3,7 +3,7 @@ ghost use Rattle.std.specs.Prelude.{◌≡◌, length};
 ghost use Rattle.pit_c.specs.Playing.{totals_count, totals_of, play_answer, play_device, play_answers, play_openings, play_totals};
 
 use crate::calls::WRONG_SIZE;
-use crate::layout::{SIZE, device_of, put_device};
+use crate::layout::{SIZE, device_of, put_whole};
 use play::Outcome;
 
 // How many totals there are.
@@ -48,6 +48,6 @@ pub extern "C" fn pit_play(
     if outcome.refusal != 0 {
         return outcome.refusal as u32;
     }
-    put_device(outcome.device, device);
+    put_whole(outcome.device, device);
     0
 }

@@ -9,9 +9,9 @@ use Rattle.gate.proofs.Gate.clocks.Kinds as kinds
 use Rattle.bits.proofs.Unique.{OneResult}
 use Rattle.gate.proofs.Gate.clock.Reads as clock-reads
 use Rattle.gate.proofs.Gate.clocks.Reads as clocks-reads
-use Rattle.gate.proofs.Gate.fresh.Reads as fresh_reads
+use Rattle.gate.proofs.Gate.fresh.Reads as fresh-reads
 use Rattle.gate.proofs.Gate.reset.Reads as reset-reads
-use Rattle.gate.proofs.Gate.line.Reads as line_reads_lem
+use Rattle.gate.proofs.Gate.line.Reads as line-reads
 use Rattle.gate.proofs.Gate.pin.Reads as pin-reads
 use Rattle.gate.proofs.Gate.write_tcr.Reads as write-tcr-reads
 use Rattle.gate.proofs.Gate.write_preload.Reads as write-preload-reads
@@ -19,7 +19,7 @@ use Rattle.gate.proofs.Gate.write_tsr.Reads as write-tsr-reads
 use Rattle.gate.proofs.Gate.write.Reads as write-reads
 use Rattle.gate.proofs.Gate.sound.Reads as sound-reads
 use Rattle.gate.proofs.Gate.quiet.Reads as quiet-reads
-use Rattle.gate.proofs.Gate.passed.Reads as Passed-reads
+use Rattle.gate.proofs.Gate.passed.Reads as passed-reads
 use Rattle.gate.proofs.Gate.regular.Reads as regular-reads
 use Rattle.gate.proofs.Gate.opened.Reads as opened-reads
 use Rattle.gate.proofs.Gate.gone_on.Reads as gone-on-reads
@@ -34,13 +34,13 @@ use Rattle.gate.proofs.Gate.list.Reads as list-reads
 pub clock : OneResult clock-reads.Post
 clock κs a r r' s s' p q = p ∙ sym q
 
-pub fresh : OneResult fresh_reads.Post
+pub fresh : OneResult fresh-reads.Post
 fresh κs a r r' s s' p q = p ∙ sym q
 
 pub reset : OneResult reset-reads.Post
 reset κs a r r' s s' p q = p ∙ sym q
 
-pub line : OneResult line_reads_lem.Post
+pub line : OneResult line-reads.Post
 line κs a r r' s s' p q = p ∙ sym q
 
 pub pin : OneResult pin-reads.Post
@@ -64,7 +64,7 @@ sound κs a r r' s s' p q = p ∙ sym q
 pub quiet : OneResult quiet-reads.Post
 quiet κs a r r' s s' p q = p ∙ sym q
 
-pub passed : OneResult Passed-reads.Post
+pub passed : OneResult passed-reads.Post
 passed κs a r r' s s' p q = p ∙ sym q
 
 pub regular : OneResult regular-reads.Post

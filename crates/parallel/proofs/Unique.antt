@@ -3,10 +3,10 @@ use mathlib.Core.Path.{sym, ◌∙◌}
 use Rattle.bits.proofs.Unique.{OneResult}
 use Rattle.parallel.proofs.Parallel.clock.Reads as clock-reads
 use Rattle.parallel.proofs.Parallel.clocks.Reads as clocks-reads
-use Rattle.parallel.proofs.Parallel.byte.Reads as byte-Reads
+use Rattle.parallel.proofs.Parallel.byte.Reads as byte-reads
 use Rattle.parallel.proofs.Parallel.read.Reads as read-reads
 use Rattle.parallel.proofs.Parallel.write.Reads as write-reads
-use Rattle.parallel.proofs.Parallel.fresh.Reads as fresh_reads
+use Rattle.parallel.proofs.Parallel.fresh.Reads as fresh-reads
 use Rattle.parallel.proofs.Parallel.reset.Reads as reset-reads
 use Rattle.parallel.proofs.Parallel.psr.Reads as psr-reads
 use Rattle.parallel.proofs.Parallel.requests.Reads as requests-reads
@@ -35,7 +35,7 @@ clock κs a r r' s s' p q = p ∙ sym q
 pub clocks : OneResult clocks-reads.Post
 clocks κs a r r' s s' p q = p ∙ sym q
 
-pub byte : OneResult byte-Reads.Post
+pub byte : OneResult byte-reads.Post
 byte κs a r r' s s' p q = p ∙ sym q
 
 pub read : OneResult read-reads.Post
@@ -44,7 +44,7 @@ read κs a r r' s s' p q = p ∙ sym q
 pub write : OneResult write-reads.Post
 write κs a r r' s s' p q = p ∙ sym q
 
-pub fresh : OneResult fresh_reads.Post
+pub fresh : OneResult fresh-reads.Post
 fresh κs a r r' s s' p q = p ∙ sym q
 
 pub reset : OneResult reset-reads.Post

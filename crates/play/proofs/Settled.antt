@@ -66,13 +66,13 @@ module _ (s : List ℕ) (d : Device) (A O : List ℕ) where
     whole : settled d A O (made d 0 t.es) ≡ play_of s d A O
     whole = ap (settle d A O) (sym t.is) ∙ valid v
 
-    answers-are : length (made d 0 t.es).answers ≡ n.answers
-    answers-are = answers_needed d 0 t.es ∙ sym t.answers
+    answers_are : length (made d 0 t.es).answers ≡ n.answers
+    answers_are = answers_needed d 0 t.es ∙ sym t.answers
 
     -- answers need more bytes than lent
     pub few_bytes : length A < n.answers → refusal d A O 6 0 ≡ play_of s d A O
     few_bytes l =
-        let z : settled d A O (made d 0 t.es) ≡ refusal d A O 6 0 = simp (lt-ltb (length A) (length (made d 0 t.es).answers) (omega (arith, answers-are))) in
+        let z : settled d A O (made d 0 t.es) ≡ refusal d A O 6 0 = simp (lt-ltb (length A) (length (made d 0 t.es).answers) (omega (arith, answers_are))) in
         sym z ∙ whole
 
     -- openings outnumber the lent row
@@ -81,7 +81,7 @@ module _ (s : List ℕ) (d : Device) (A O : List ℕ) where
         let many : opened_by d (parsed s) ≡ length (made d 0 t.es).openings = ap (opened_by d) t.is in
         let z : settled d A O (made d 0 t.es) ≡ refusal d A O 7 0 =
         simp (
-          le-ltb (length A) (length (made d 0 t.es).answers) (omega (arith, answers-are)),
+          le-ltb (length A) (length (made d 0 t.es).answers) (omega (arith, answers_are)),
           lt-ltb (length O) (length (made d 0 t.es).openings) (omega (arith, many, l)),
         ) in
         sym z ∙ whole
@@ -93,7 +93,7 @@ module _ (s : List ℕ) (d : Device) (A O : List ℕ) where
     fits : n.answers ≤ length A → length (made d 0 t.es).openings ≤ length O → stored (made d 0 t.es) A O ≡ play_of s d A O
     fits a ho =
         let m = made d 0 t.es in
-        let ha : length m.answers ≤ length A = omega (arith, answers-are) in
+        let ha : length m.answers ≤ length A = omega (arith, answers_are) in
         let y : settled d A O m ≡ acceptance d A O m = simp (le-ltb (length A) (length m.answers) ha, le-ltb (length O) (length m.openings) ho) in
         (λ i. result (accepted_outcome m) (over m.answers A ha i) (over m.openings O ho i)) ∙ sym y ∙ whole
 

@@ -102,12 +102,12 @@ module _ (s : List ℕ) (c d : Device) (same : Agree d.gate c.gate) where
   gate_alone_stores answers openings bytes row accepted taken =
       let f = accepted_is_the_fold s c answers openings accepted in
       let g = accepted_is_the_fold s d bytes row taken in
-      let es : f.es ≡ g.es = events-same f.es g.es f.read g.read in
+      let es : f.es ≡ g.es = events_same f.es g.es f.read g.read in
       rw (f.result, g.result, es)
       (take-append_seam (made c 0 g.es).openings _ ∙ gate_alone g.es c d 0 same ∙ sym (take-append_seam (made d 0 g.es).openings _))
     where
-      events-same : (xs ys : List Event) → parsed s ≡ events xs → parsed s ≡ events ys → xs ≡ ys
-      events-same xs ys p q = cc
+      events_same : (xs ys : List Event) → parsed s ≡ events xs → parsed s ≡ events ys → xs ≡ ys
+      events_same xs ys p q = cc
 
   -- Where both are valid and the same is lent, one call is accepted exactly when the other is, else refused alike, refusal 7 too.
   pub gate_alone_judges : (answers openings : List ℕ) → valid_of c ≡ true → valid_of d ≡ true → SameRow (play_of s c answers openings) (play_of s d answers openings)

@@ -74,11 +74,11 @@ pub room_is_all_that_counts : (s : List ℕ) (d : Device) (answers openings byte
     → Same (play_of s d bytes row) (play_of s d answers openings)
 room_is_all_that_counts s d answers openings bytes row accepted m n =
     let f = accepted_is_the_fold s d answers openings accepted in
-    let made-answers = (made d 0 f.es).answers in
-    let made-openings = (made d 0 f.es).openings in
+    let made_answers = (made d 0 f.es).answers in
+    let made_openings = (made d 0 f.es).openings in
     rw (f.result, taken s d bytes row f.es f.valid f.read (rw f.result at m) (rw f.result at n))
     (record {
       outcome = refl;
-      answers = take-append_seam made-answers _ ∙ sym (take-append_seam made-answers _);
-      openings = take-append_seam made-openings _ ∙ sym (take-append_seam made-openings _);
+      answers = take-append_seam made_answers _ ∙ sym (take-append_seam made_answers _);
+      openings = take-append_seam made_openings _ ∙ sym (take-append_seam made_openings _);
     })

@@ -63,11 +63,11 @@ runs_by P tcr level h on-clk on-gate =
     let few = ltb-true (source_of tcr) 2 (and_right tests (ltb (source_of tcr) 2) h) in
     let on = and_left (bit_of tcr 0) (not (eqb (source_of tcr) 1) || level) runs in
     let lets = and_right (bit_of tcr 0) (not (eqb (source_of tcr) 1) || level) runs in
-    by-gate (eqb (source_of tcr) 1) refl on few lets
+    by_gate (eqb (source_of tcr) 1) refl on few lets
   where
-    by-gate : (gate : Bool) → eqb (source_of tcr) 1 ≡ gate → bit_of tcr 0 ≡ true → source_of tcr < 2 → (not (eqb (source_of tcr) 1) || level) ≡ true → P
-    by-gate true e on few lets = on-gate on (eqb-true (source_of tcr) 1 e) (rw e at lets)
-    by-gate false e on few lets = on-clk on (omega (arith, few, eqb-false (source_of tcr) 1 e))
+    by_gate : (gate : Bool) → eqb (source_of tcr) 1 ≡ gate → bit_of tcr 0 ≡ true → source_of tcr < 2 → (not (eqb (source_of tcr) 1) || level) ≡ true → P
+    by_gate true e on few lets = on-gate on (eqb-true (source_of tcr) 1 e) (rw e at lets)
+    by_gate false e on few lets = on-clk on (omega (arith, few, eqb-false (source_of tcr) 1 e))
 
 -- a halted timer does not run
 contrary : (tcr : ℕ) (level : Bool) → runs_of tcr level ≡ false → clock_steps tcr level ≡ true → ⊥
@@ -115,13 +115,13 @@ module _ (d : Device) where
       record { runs = rw (still, tin_level_lem d.gate true) runs; reload = rw still reload }
 
   module _ (halted : Halted d) where
-    same-rests : (g : Gate) → g.timer.tcr ≡ d.gate.timer.tcr → tin_level g.c ≡ tin_level d.gate.c → {A : Type 0} → Running g → A
-    same-rests g t l run = absurd (contrary d.gate.timer.tcr (tin_level d.gate.c) halted (rw (t, l) at run.runs))
+    same_rests : (g : Gate) → g.timer.tcr ≡ d.gate.timer.tcr → tin_level g.c ≡ tin_level d.gate.c → {A : Type 0} → Running g → A
+    same_rests g t l run = absurd (contrary d.gate.timer.tcr (tin_level d.gate.c) halted (rw (t, l) at run.runs))
 
     -- a write of TCR that leaves it running
-    tcr-kind : (v : ℕ) → v < 256 → Running (write_tcr d.gate v) → Start d (Write TCR v)
+    tcr_kind : (v : ℕ) → v < 256 → Running (write_tcr d.gate v) → Start d (Write TCR v)
     unfolding write_tcr
-    tcr-kind v byte run =
+    tcr_kind v byte run =
         let holds = controlled_tcr d.gate.timer v (tin_level d.gate.c) in
         let h = tcr_holds v byte in
         let reload : rolls_of v ≡ false = sym h.1 ∙ (rw holds at run.reload) in
@@ -129,20 +129,20 @@ module _ (d : Device) where
         (λ on source. clk v (sym h.0 ∙ on) reload (sym h.2 ∙ source))
         (λ on source high. gated v (sym h.0 ∙ on) reload (sym h.2 ∙ source) high)
 
-    write-kind : (r v : ℕ) → v < 256 → Running (gate_written d.gate r v) → Start d (Write r v)
+    write_kind : (r v : ℕ) → v < 256 → Running (gate_written d.gate r v) → Start d (Write r v)
     unfolding write_preload write_tsr preloaded_of cleared_of
-    write-kind r v byte =
+    write_kind r v byte =
         let g = d.gate in
         any_write (λ (x : Gate). Running x → Start d (Write r v)) g r v
-        (λ x a. same-rests x (ap (λ (t : Timer). t.tcr) a.timer) a.tin)
-        (λ e run. subst (λ (x : ℕ). Start d (Write x v)) (sym e) (tcr-kind v byte run))
-        (λ _. same-rests _ refl refl)
-        (λ _ _. same-rests _ refl refl)
-        (λ _. same-rests (write_tsr g v) (branch (λ (t : Timer). t.tcr ≡ g.timer.tcr) (bit_of v 0) (with_zds g.timer false) g.timer (λ _. refl) (λ _. refl)) refl)
+        (λ x a. same_rests x (ap (λ (t : Timer). t.tcr) a.timer) a.tin)
+        (λ e run. subst (λ (x : ℕ). Start d (Write x v)) (sym e) (tcr_kind v byte run))
+        (λ _. same_rests _ refl refl)
+        (λ _ _. same_rests _ refl refl)
+        (λ _. same_rests (write_tsr g v) (branch (λ (t : Timer). t.tcr ≡ g.timer.tcr) (bit_of v 0) (with_zds g.timer false) g.timer (λ _. refl) (λ _. refl)) refl)
 
     -- a level at PC2 that does
-    tin-kind : (level : Bool) → Running (tin_event d.gate level) → Start d (Pin tin_pin level)
-    tin-kind level run =
+    tin_kind : (level : Bool) → Running (tin_event d.gate level) → Start d (Pin tin_pin level)
+    tin_kind level run =
         let t = d.gate.timer in
         let keeps = tin_keeps d.gate level in
         let runs : clock_steps t.tcr level ≡ true = rw (keeps, tin_level_lem d.gate level) at run.runs in
@@ -150,22 +150,22 @@ module _ (d : Device) where
         (λ on source. absurd (contrary t.tcr (tin_level d.gate.c) halted (clk_runs t.tcr (tin_level d.gate.c) on source)))
         (λ on source high. subst (λ (x : Bool). Start d (Pin tin_pin x)) (sym high) (rise on (rw keeps at run.reload) source))
 
-    pin-kind : (n : ℕ) (level : Bool) → Running (gate_pinned d.gate n level) → Start d (Pin n level)
-    pin-kind n level =
+    pin_kind : (n : ℕ) (level : Bool) → Running (gate_pinned d.gate n level) → Start d (Pin n level)
+    pin_kind n level =
         any_gate_pin (λ (x : Gate). Running x → Start d (Pin n level)) d.gate n level
-        (λ x a. same-rests x (ap (λ (t : Timer). t.tcr) a.timer) a.tin)
-        (λ e run. subst (λ (x : ℕ). Start d (Pin x level)) (sym e) (tin-kind level run))
+        (λ x a. same_rests x (ap (λ (t : Timer). t.tcr) a.timer) a.tin)
+        (λ e run. subst (λ (x : ℕ). Start d (Pin x level)) (sym e) (tin_kind level run))
 
     -- what leaves a halted gate running is one of them
-    kind-of : (e : Event) → Byte e → Running (followed d.gate e) → Start d e
+    kind_of : (e : Event) → Byte e → Running (followed d.gate e) → Start d e
     unfolding clock_steps runs_of bit_of reset_gate reset_timer
-    kind-of (Write r v) byte run = write-kind r v byte run
-    kind-of (Read r) byte run = same-rests d.gate refl refl run
-    kind-of PortAcknowledge byte run = same-rests d.gate refl refl run
-    kind-of TimerAcknowledge byte run = same-rests d.gate refl refl run
-    kind-of (Pin n level) byte run = pin-kind n level run
-    kind-of (Clocks n) byte run = same-rests (followed d.gate (Clocks n)) (after_keeps (tin_level d.gate.c) n d.gate.timer).tcr refl run
-    kind-of Reset byte run = absurd (false≢true run.runs)
+    kind_of (Write r v) byte run = write_kind r v byte run
+    kind_of (Read r) byte run = same_rests d.gate refl refl run
+    kind_of PortAcknowledge byte run = same_rests d.gate refl refl run
+    kind_of TimerAcknowledge byte run = same_rests d.gate refl refl run
+    kind_of (Pin n level) byte run = pin_kind n level run
+    kind_of (Clocks n) byte run = same_rests (followed d.gate (Clocks n)) (after_keeps (tin_level d.gate.c) n d.gate.timer).tcr refl run
+    kind_of Reset byte run = absurd (false≢true run.runs)
 
 module _ (d : Device) (k : ℕ) (e : Event) where
   pub gate_runs : Starting d (effect d k e).device → Running (followed d.gate e)
@@ -174,7 +174,7 @@ module _ (d : Device) (k : ℕ) (e : Event) where
   -- Exactly the events of these three kinds start a run on CLK with reload from halt.
   pub three_kinds : Byte e → Starting d (effect d k e).device ↔ (Halted d × Start d e)
   three_kinds byte = (
-    (λ s. (s.halted, kind-of d s.halted e byte (gate_runs s))),
+    (λ s. (s.halted, kind_of d s.halted e byte (gate_runs s))),
     (λ h.
         let run = kind_runs d byte h.1 in
         record { halted = h.0; runs = rw (gate_follows d k e) run.runs; reload = rw (gate_follows d k e) run.reload }),

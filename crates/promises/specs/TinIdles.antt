@@ -105,16 +105,16 @@ stated_makes c d k level same =
       outside,
     ) refl
   where
-    level-at : (n : ℕ) → n < 8 → (here : Bool) → eqb tin n ≡ here → bit_of (with_bit c.gate.c.outside tin level) n ≡ bit_of (with_bit d.gate.c.outside tin level) n
-    level-at n l true e = rw (with_bit_lem c.gate.c.outside tin n level l, with_bit_lem d.gate.c.outside tin n level l, e) refl
-    level-at n l false e =
+    level_at : (n : ℕ) → n < 8 → (here : Bool) → eqb tin n ≡ here → bit_of (with_bit c.gate.c.outside tin level) n ≡ bit_of (with_bit d.gate.c.outside tin level) n
+    level_at n l true e = rw (with_bit_lem c.gate.c.outside tin n level l, with_bit_lem d.gate.c.outside tin n level l, e) refl
+    level_at n l false e =
         rw (with_bit_lem c.gate.c.outside tin n level l, with_bit_lem d.gate.c.outside tin n level l, e)
         (same.gate.levels n l (λ f. false≢true (sym (rw f at e))))
 
     outside : with_bit c.gate.c.outside tin level ≡ with_bit d.gate.c.outside tin level
     outside =
         same_bits _ _ (with_byte c.gate.c.outside tin level same.gate.bytes.1) (with_byte d.gate.c.outside tin level same.gate.bytes.0)
-        (λ n l. level-at n l (eqb tin n) refl)
+        (λ n l. level_at n l (eqb tin n) refl)
 
 joined_alike : (x y f g : Made) → x.answers ≡ y.answers → x.openings ≡ y.openings → f ≡ g → joined x f ≡ joined y g
 joined_alike x y f g answers openings rest = rw (answers, openings, rest)

@@ -15,23 +15,23 @@ both (Some x) (Some y) None xs ys f g = absurd g
 both (Some x) (Some y) (Some z) xs ys f g = g ∙ ap (λ (t : List ℕ). t ++ ys) f ∙ append_assoc x xs ys
 
 -- lines of more openings follow the lines of some
-lines-append : (xs ys : List ℕ) → opening_lines (xs ++ ys) ≡ opening_lines xs ++ opening_lines ys
+lines_append : (xs ys : List ℕ) → opening_lines (xs ++ ys) ≡ opening_lines xs ++ opening_lines ys
 unfolding opening_lines
-lines-append [] ys = refl
-lines-append (x ∷ xs) ys =
-    rw (lines-append xs ys) (sym (append_assoc (opening_line x) (opening_lines xs) (opening_lines ys)))
+lines_append [] ys = refl
+lines_append (x ∷ xs) ys =
+    rw (lines_append xs ys) (sym (append_assoc (opening_line x) (opening_lines xs) (opening_lines ys)))
 
-one-line : (x : ℕ) → opening_lines (x ∷ []) ≡ opening_line x
+one_line : (x : ℕ) → opening_lines (x ∷ []) ≡ opening_line x
 unfolding opening_lines
-one-line x = append-nil (opening_line x)
+one_line x = append-nil (opening_line x)
 
 -- the lines of a row up to a place, and the line that comes there
-pub line-more : (row : List ℕ) (i : ℕ) → i < length row
+pub line_more : (row : List ℕ) (i : ℕ) → i < length row
     → opening_lines (take (i + 1) row) ≡ opening_lines (take i row) ++ opening_line (get_or row i 0)
-line-more row i lt =
-    rw (take_more row i 0 lt, lines-append (take i row) (get_or row i 0 ∷ []), one-line (get_or row i 0)) refl
+line_more row i lt =
+    rw (take_more row i 0 lt, lines_append (take i row) (get_or row i 0 ∷ []), one_line (get_or row i 0)) refl
 
 -- where nothing is used no line comes
-pub no-line : opening_lines [] ≡ []
+pub no_line : opening_lines [] ≡ []
 unfolding opening_lines
-no-line = refl
+no_line = refl

@@ -1,24 +1,24 @@
--- The bytes of what the programs print.
+-- The bytes that are printed (01, 'Lists to try'): `R` refusal place, `G` and clock per opening, `C` and all clocks, each a line.
 use Rattle.std.specs.Prelude.{ℕ, ◌/◌, List, [], ◌∷◌, ◌++◌, codes, decimal}
 use Rattle.report.specs.Digit.{digit_of}
 
--- a byte as two digits
+-- 'two uppercase hex digits' of a byte
 unfoldable pub two_digits : ℕ → List ℕ
 two_digits byte = digit_of (byte / 16) ∷ digit_of byte ∷ []
 
--- `R`, a refusal and its place
+-- '`R` refusal place'
 unfoldable pub refusal_line : ℕ → ℕ → List ℕ
 refusal_line number place = codes "R " ++ (decimal number ++ (codes " " ++ (decimal place ++ codes "\n")))
 
--- `G` and the clock of an opening
+-- '`G` and clock' of an opening
 unfoldable pub opening_line : ℕ → List ℕ
 opening_line clock = codes "G " ++ (decimal clock ++ codes "\n")
 
--- a line for each opening
+-- '`G` and clock per opening'
 unfoldable pub opening_lines : List ℕ → List ℕ
 opening_lines [] = []
 opening_lines (clock ∷ others) = opening_line clock ++ opening_lines others
 
--- `C` and all clocks
+-- '`C` and all clocks'
 unfoldable pub clocks_line : ℕ → List ℕ
 clocks_line n = codes "C " ++ (decimal n ++ codes "\n")

@@ -17,17 +17,17 @@ module _ (s : List ℕ) where
 
   module _ (bytes : (i : ℕ) → get_or s i 0 < 256) where
     -- the first bits of a byte are what a shift leaves of it
-    first-of-byte : (i w : ℕ) → w ≤ 8 → field_at s (i * 8) w ≡ get_or s i 0 / 2 ^ (8 - w)
+    first_of_byte : (i w : ℕ) → w ≤ 8 → field_at s (i * 8) w ≡ get_or s i 0 / 2 ^ (8 - w)
     unfolding field_at
-    first-of-byte i zero l = sym (div-eq_of_lt (bytes i))
-    first-of-byte i (suc w) l =
+    first_of_byte i zero l = sym (div-eq_of_lt (bytes i))
+    first_of_byte i (suc w) l =
         ap₂ (λ (x y : ℕ). x * 2 + y)
-        (first-of-byte i w (omega arith) ∙ ap (λ (q : ℕ). get_or s i 0 / 2 ^ q) (omega arith) ∙ sym (shr-shr (get_or s i 0) (8 - suc w) 1))
+        (first_of_byte i w (omega arith) ∙ ap (λ (q : ℕ). get_or s i 0 / 2 ^ q) (omega arith) ∙ sym (shr-shr (get_or s i 0) (8 - suc w) 1))
         (ap₂ (λ (p q : ℕ). get_or s p 0 / 2 ^ q % 2) (omega arith) (omega arith))
         ∙ pow.split (get_or s i 0 / 2 ^ (8 - suc w)) 1
 
     byte : (i at : ℕ) → at ≡ i * 8 → field_at s at 8 ≡ get_or s i 0
-    byte i at e = ap (λ (p : ℕ). field_at s p 8) e ∙ first-of-byte i 8 (omega arith) ∙ omega arith
+    byte i at e = ap (λ (p : ℕ). field_at s p 8) e ∙ first_of_byte i 8 (omega arith) ∙ omega arith
 
     pub three_bytes : (i : ℕ) → (get_or s i 0 * 2 ^ 8 + get_or s (i + 1) 0) * 2 ^ 8 + get_or s (i + 2) 0 ≡ field_at s (i * 8) 24
     three_bytes i =

@@ -19,17 +19,17 @@ module _ (s : List ℕ) (at second third four size left : ℕ) (bytes : (i : ℕ
       ∙ (λ i. ((get_or s (at / 8) 0 * 2 ^ 8 + p i) * 2 ^ 8 + q i) * 2 ^ 8 + sym (get_or-eq_default s 0 past) i)
       ∙ four_bytes s bytes (at / 8))
 
-  needs-so-many : size ≡ size_of (kind_at s at)
-  needs-so-many = sized ∙ ap (λ (w : ℕ). size_of (kind_in w)) read ∙ ap size_of (kind_is s at)
+  needs_so_many : size ≡ size_of (kind_at s at)
+  needs_so_many = sized ∙ ap (λ (w : ℕ). size_of (kind_in w)) read ∙ ap size_of (kind_is s at)
 
   remaining : at + left ≡ bits_in s
   remaining = omega arith
 
   lacking : left < size → no_word ≡ bits_of s at
-  lacking l = cut s at (omega (arith, remaining, needs-so-many))
+  lacking l = cut s at (omega (arith, remaining, needs_so_many))
 
   there : size ≤ left → four * 2 ^ (bit_and at 7) % 2 ^ 32 ≡ bits_of s at
-  there l = read ∙ whole s at (omega (arith, remaining, needs-so-many))
+  there l = read ∙ whole s at (omega (arith, remaining, needs_so_many))
 
 pub returns-then-list-i : goal.returns-then-list-i
 returns-then-list-i c = past_end c.args.list.now c.args.at c.if-list-i.true

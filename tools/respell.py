@@ -36,7 +36,8 @@ wordAt wordOf write-keeps write-moves write-spec writtenOf
 LOCAL = """
 resetTimer portCells linkClocks timerRegisters timerOpenings soundLink resetParallel linkValidity linkRead linkLevel lentOpenings lentAnswers
 timerValidity byPin withOutsideC withDirectionC timerAnswer timerAfter soundParallel secondLink portAnswer parallelValidity interruptsOf firstLink
-""".split()  # names that a file gives to what it imports, and arguments
+answers-are by-gate events-same first-of-byte kind-of level-at made-answers made-openings pin-kind same-rests tcr-kind tin-kind write-kind
+""".split()  # names that a file has for what it imports, for arguments, and under where and let
 FACTS = {"soundUnder": "IsSoundUnder", "wellFormed": "IsWellFormed", "allWellFormed": "AllWellFormed"}
 TOKEN = re.compile(r"[^\s(){}\[\];,.:«»\"`]+")
 

@@ -102,4 +102,4 @@ module _ (tin : Bool) (t : Timer) (h : clock_steps t.tcr tin ≡ true) (g : regu
       let q : ℕ = counts_before t in
       let o = opening_is t g in
       count_span tin (lowered_of t q) (still_clocked tin t h q) q t.phase.prescaler.0 o.0
-      (record { timer = since_of t 0 (not t.phase.square); opened = true }) (ap (λ (u : Timer). count_of (at full u)) o.1)
+      (record { part = since_of t 0 (not t.phase.square); opened = true }) (ap (λ (u : Timer). count_of (at full u)) o.1)

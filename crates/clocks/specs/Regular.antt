@@ -5,10 +5,10 @@ use Rattle.timer.specs.Control.{rolls_of}
 use Rattle.timer.specs.Counting.{full, greatest}
 use Rattle.timer.specs.Parts.{with_zds, with_square}
 use Rattle.timer.specs.declared.Timer.{Timer}
+use Rattle.timer.specs.declared.Run.{Run}
 use Rattle.clocks.specs.Steps.{at, turn, steps_to}
 use Rattle.clocks.specs.Counts.{counting}
 use Rattle.clocks.specs.Jumps.{over_of}
-use Rattle.clocks.specs.declared.Clocked.{Clocked}
 
 -- a load that is due is not one of zero, and a count at zero leads on to more than zero
 unfoldable pub regular_of : Timer → Bool
@@ -59,5 +59,5 @@ gone_on t n =
     else since_of t ((n - clocks_to t) % period_of t) (square_after t ((n - clocks_to t) / period_of t))
 
 -- and how many of them opened
-abbrev pub regularly_of : Timer → ℕ → Clocked
-regularly_of t n = record { timer = gone_on t n; used = opened_in t n }
+abbrev pub regularly_of : Timer → ℕ → Run Timer
+regularly_of t n = record { part = gone_on t n; used = opened_in t n }

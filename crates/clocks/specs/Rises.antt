@@ -8,16 +8,16 @@ use Rattle.bits.specs.Choice.{and_left, and_right}
 use Rattle.timer.specs.Control.{clock_steps}
 use Rattle.timer.specs.Running.{risen_of, takes_rise, after, openings, mark}
 use Rattle.timer.specs.declared.Timer.{Timer}
+use Rattle.timer.specs.declared.Run.{Run}
 use Rattle.clocks.specs.Spans.{Span, idle, rise_first}
-use Rattle.clocks.specs.declared.Clocked.{Clocked}
 
 -- n clocks, at least one, are no source steps, and the first takes a held rise
 unfoldable pub rises_first : Bool → ℕ → Timer → Bool
 rises_first tin n t = not (eqb n 0) && (not (clock_steps t.tcr tin) && takes_rise t tin)
 
 -- the timer after such clocks, of which the first alone does something, and how many opened
-unfoldable pub risen_first : Timer → Clocked
-risen_first t = record { timer = (risen_of t).timer; used = if (risen_of t).opened then 1 else 0 }
+unfoldable pub risen_first : Timer → Run Timer
+risen_first t = record { part = (risen_of t).part; used = if (risen_of t).opened then 1 else 0 }
 
 -- the number of the first, after clock k, where it opens
 unfoldable pub risen_moments : Timer → ℕ → List ℕ
@@ -34,7 +34,7 @@ risen_many t k = go (risen_of t).opened
 
 module _ (tin : Bool) (t : Timer) where
   -- the first of such clocks takes the rise, and the others change nothing
-  pub rises_first_lem : (n : ℕ) → rises_first tin n t ≡ true → Span tin n t (risen_first t).timer (risen_moments t)
+  pub rises_first_lem : (n : ℕ) → rises_first tin n t ≡ true → Span tin n t (risen_first t).part (risen_moments t)
   unfolding rises_first risen_first risen_moments
   rises_first_lem zero h = absurd (false≢true h)
   rises_first_lem (suc n) h =

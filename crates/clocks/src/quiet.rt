@@ -29,14 +29,7 @@ pub fn passed(mut timer: Timer, tin: bool, n: u32) -> Timer
         return timer;
     }
     let counts = counts_in(timer.phase.prescaler, n as u64);
-    let scaled = scaled_after(timer.phase.prescaler, n as u64);
-    timer.phase.prescaler.0 = scaled.0;
-    let count = timer.count.0 as u64;
-    if count < counts {
-        timer.count.0 = 0;
-        return timer;
-    }
-    let lower = (count - counts) as u32;
-    timer.count.0 = lower;
+    timer.phase.prescaler = scaled_after(timer.phase.prescaler, n as u64);
+    timer.count.0 = (timer.count.0 as u64).saturating_sub(counts) as u32;
     timer
 }

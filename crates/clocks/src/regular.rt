@@ -30,27 +30,28 @@ fn counts_between(timer: Timer) -> u64
     ensures { result ≡ counts_between timer }
 {
     if rolls(timer.tcr) {
-        return ROLL;
+        ROLL
+    } else {
+        timer.preload.0 as u64 + 1
     }
-    timer.preload.0 as u64 + 1
 }
 
 // The counts before the first that opens.
-#[tactic(auto, unfolding(crate::specs::Regular::counts_before))]
+#[tactic(auto, unfolding(crate::specs::Regular::counts_before), using(crate::proofs::Sizes::some_between))]
 fn counts_before(timer: Timer) -> u64
     ensures { result ≡ counts_before timer }
 {
     if timer.phase.due {
-        return timer.preload.0 as u64;
+        timer.preload.0 as u64
+    } else if timer.count.0 == 0 {
+        counts_between(timer) - 1
+    } else {
+        timer.count.0 as u64 - 1
     }
-    if timer.count.0 == 0 {
-        return counts_between(timer) - 1;
-    }
-    timer.count.0 as u64 - 1
 }
 
 // The clocks to the first opening, its own among them.
-#[tactic(auto, unfolding(crate::specs::Regular::clocks_to, crate::specs::Steps::steps_to))]
+#[tactic(auto, unfolding(crate::specs::Regular::clocks_to, crate::specs::Steps::steps_to), using(crate::proofs::Sizes::most_before))]
 fn clocks_to(timer: Timer) -> u64
     ensures { result ≡ clocks_to timer }
 {
@@ -58,7 +59,7 @@ fn clocks_to(timer: Timer) -> u64
 }
 
 // The clocks from one opening to the next.
-#[tactic(auto, unfolding(crate::specs::Regular::period_of))]
+#[tactic(auto, unfolding(crate::specs::Regular::period_of), using(crate::proofs::Sizes::most_between))]
 fn period(timer: Timer) -> u64
     ensures { result ≡ period_of timer }
 {
@@ -66,7 +67,7 @@ fn period(timer: Timer) -> u64
 }
 
 // How many of n clocks open.
-#[tactic(auto, unfolding(crate::specs::Regular::opened_in))]
+#[tactic(auto, unfolding(crate::specs::Regular::opened_in), using(crate::proofs::Sizes::some_period))]
 pub fn opened(timer: Timer, n: u32) -> usize
     ensures { result ≡ opened_in timer n }
 {
@@ -78,7 +79,7 @@ pub fn opened(timer: Timer, n: u32) -> usize
 }
 
 // The timer after n clocks: before the first opening, or so many turns and a rest after it.
-#[tactic(auto, unfolding(crate::specs::Regular::gone_on, crate::specs::Regular::since_of, crate::specs::Regular::square_after))]
+#[tactic(auto, unfolding(crate::specs::Regular::gone_on, crate::specs::Regular::since_of, crate::specs::Regular::square_after), using(crate::proofs::Sizes::most_before, crate::proofs::Sizes::most_between, crate::proofs::Sizes::some_period, crate::proofs::Sizes::past_less))]
 pub fn gone_on(mut timer: Timer, n: u32) -> Timer
     ensures { result ≡ gone_on timer n }
 {
@@ -94,39 +95,31 @@ pub fn gone_on(mut timer: Timer, n: u32) -> Timer
     let past = rest / TURN;
     timer.phase.due = false;
     timer.phase.zds = true;
-    let square = timer.phase.square == (turns % 2 == 1);
-    timer.phase.square = square;
-    let scaled = Timer::FULL - (rest % TURN) as u8;
-    timer.phase.prescaler.0 = scaled;
-    if past == 0 {
-        timer.count.0 = 0;
-        return timer;
-    }
-    let count = (between - past) as u32;
-    timer.count.0 = count;
+    timer.phase.square = timer.phase.square == (turns % 2 == 1);
+    timer.phase.prescaler.0 = Timer::FULL - (rest % TURN) as u8;
+    timer.count.0 = if past == 0 {
+        0
+    } else {
+        (between - past) as u32
+    };
     timer
 }
 
 // Lists so many clock numbers from one on, a period apart, as far as the row has room.
+#[tactic(auto, using(crate::proofs::Listing::fits_on, crate::proofs::Listing::noted, crate::proofs::Listing::ends))]
 fn listed(first: u64, period: u64, many: usize, row: &mut [u32], at: usize)
     requires { first + many * period < 2 ^ 64 }
     ensures { row.new ≡ sets row.old at (map clock_number (spaced period first many)) }
 {
-    let mut place = at;
     let mut number = first;
-    let mut turn: usize = 0;
-    while turn < many {
-        if row.len() <= place {
-            return;
-        }
+    for place in at..row.len().min(at.saturating_add(many)) {
         row[place] = number_of(number);
         number += period;
-        place += 1;
-        turn += 1;
     }
 }
 
 // The numbers of those of n clocks that open go into the row from place `at` on, as far as the row has room.
+#[tactic(auto, using(crate::proofs::Sizes::most_first, crate::proofs::Sizes::most_period, crate::proofs::Sizes::opened_span))]
 pub fn list(timer: Timer, n: u32, passed: ClockNumber, row: &mut [u32], at: usize)
     ensures { row.new ≡ sets row.old at (map clock_number (moments_of timer n passed.0)) }
 {

@@ -1,4 +1,5 @@
 // The register map and the pins (01, 'Registers', 'The event list'; 001): each number under the name that it has in document 000.
+// Numbers and no enum: each byte is some register's or pin's number and has an answer, and 01 asks for one decision over them, with ranges.
 
 // Ports A, B and C: general control, service request, directions, port interrupt vector, controls, data, alternates, status.
 pub const PGCR: u8 = 0;

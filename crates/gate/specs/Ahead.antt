@@ -8,10 +8,10 @@ use Rattle.clocks.specs.Rises.{rises_first, risen_first, risen_moments, risen_ma
 use Rattle.clocks.specs.Turns.{spaced_many, regular_clocks as timer-regular}
 use Rattle.port_c.specs.Pins.{tin_level}
 use Rattle.timer.specs.Control.{clock_steps}
+use Rattle.timer.specs.declared.Run.{Run}
 use Rattle.gate.specs.Clocking.{gate_after, gate_openings, gate_run}
 use Rattle.gate.specs.Parts.{with_timer}
 use Rattle.gate.specs.declared.Gate.{Gate}
-use Rattle.gate.specs.declared.GateRun.{GateRun}
 
 -- n clocks open nothing, and only lower the counter
 unfoldable pub quiet_gate : ℕ → Gate → Bool
@@ -26,8 +26,8 @@ unfoldable pub rises_gate : ℕ → Gate → Bool
 rises_gate n g = rises_first (tin_level g.c) n g.timer
 
 -- the gate after such clocks, and how many opened it: the first or none
-unfoldable pub risen_gate : Gate → GateRun
-risen_gate g = record { gate = with_timer g (risen_first g.timer).timer; used = (risen_first g.timer).used }
+unfoldable pub risen_gate : Gate → Run Gate
+risen_gate g = record { part = with_timer g (risen_first g.timer).part; used = (risen_first g.timer).used }
 
 -- the number of the first, after clock k, where it opens
 unfoldable pub moments_risen : ℕ → Gate → List ℕ
@@ -59,7 +59,7 @@ pub rise_clocks : (n k : ℕ) (g : Gate) → rises_gate n g ≡ true → (gate_r
 unfolding rises_gate risen_gate moments_risen gate_run
 rise_clocks n k g h =
     let s = rises_first_lem (tin_level g.c) g.timer n h in (
-      (λ i. record { gate = with_timer g (s.ends i); used = (ap length (s.opens k) ∙ risen_many g.timer k) i }),
+      (λ i. record { part = with_timer g (s.ends i); used = (ap length (s.opens k) ∙ risen_many g.timer k) i }),
       s.opens k,
     )
 

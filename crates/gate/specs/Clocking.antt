@@ -2,15 +2,15 @@
 use Rattle.std.specs.Prelude.{ℕ, List, length}
 use Rattle.port_c.specs.Pins.{tin_level}
 use Rattle.timer.specs.Running.{clocked_timer, after, openings}
+use Rattle.timer.specs.declared.Stepped.{Stepped}
+use Rattle.timer.specs.declared.Run.{Run}
 use Rattle.gate.specs.Parts.{with_timer}
 use Rattle.gate.specs.declared.Gate.{Gate}
-use Rattle.gate.specs.declared.Gated.{Gated}
-use Rattle.gate.specs.declared.GateRun.{GateRun}
 
 -- one clock
-unfoldable pub clocked_gate : Gate → Gated
+unfoldable pub clocked_gate : Gate → Stepped Gate
 clocked_gate g = record {
-  gate = with_timer g (clocked_timer (tin_level g.c) g.timer).timer;
+  part = with_timer g (clocked_timer (tin_level g.c) g.timer).part;
   opened = (clocked_timer (tin_level g.c) g.timer).opened;
 }
 
@@ -23,5 +23,5 @@ abbrev pub gate_openings : ℕ → ℕ → Gate → List ℕ
 gate_openings n k g = openings (tin_level g.c) n k g.timer
 
 -- n clocks after clock k: the gate, and how many of them opened it
-unfoldable pub gate_run : ℕ → ℕ → Gate → GateRun
-gate_run n k g = record { gate = gate_after n g; used = length (gate_openings n k g) }
+unfoldable pub gate_run : ℕ → ℕ → Gate → Run Gate
+gate_run n k g = record { part = gate_after n g; used = length (gate_openings n k g) }

@@ -5,45 +5,46 @@ ghost use Rattle.clocks.specs.Clocks.{clock_number};
 ghost use Rattle.gate.specs.Ahead.{quiet_gate, passed_gate, rises_gate, risen_gate, moments_risen, regular_gate, opened_gate, gone_gate, moments_gate};
 ghost use Rattle.gate.specs.Clocking.{clocked_gate, gate_openings, gate_run};
 
-use crate::{Gate, GateRun, Gated};
-use timer::ClockNumber;
+use crate::Gate;
 use timer::control::clock_steps;
+use timer::{ClockNumber, Run, Stepped};
 
 impl Gate {
     // One clock.
     #[tactic(auto, unfolding(crate::specs::Clocking::clocked_gate))]
-    pub fn clock(mut self) -> Gated
+    pub fn clock(self) -> Stepped<Gate>
         ensures { result ≡ clocked_gate self }
     {
-        let counted = self.timer.clocked(self.c.tin());
-        let timer = counted.timer;
-        self.timer = timer;
-        Gated {
-            gate: self,
-            opened: counted.opened,
+        let next = self.timer.clocked(self.c.tin());
+        Stepped {
+            part: Gate {
+                timer: next.part,
+                ..self
+            },
+            opened: next.opened,
         }
     }
 
     // n clocks, after those that have passed, at once. The number of each that opens goes into the row from place `at` on, as far
     // as the row has room. A timer that they do not step, and that holds no rise for them, stands.
-    #[tactic(auto, unfolding(crate::specs::Clocking::gate_run, clocks::specs::Clocks::clocks_of))]
-    pub fn clocks(mut self, n: u32, passed: ClockNumber, row: &mut [u32], at: usize) -> GateRun
+    #[tactic(auto, unfolding(crate::specs::Clocking::gate_run, clocks::specs::Clocks::clocks_of), using(clocks::specs::Spans::idle, clocks::specs::Spans::idle_openings))]
+    pub fn clocks(self, n: u32, passed: ClockNumber, row: &mut [u32], at: usize) -> Run<Gate>
         ensures counted { result ≡ gate_run n passed.0 self }
         ensures numbered { row.new ≡ sets row.old at (map clock_number (gate_openings n passed.0 self)) }
     {
-        let timer = self.timer;
         let tin = self.c.tin();
-        if !clock_steps(timer.tcr, tin) & !timer.takes_rise(tin) {
-            return GateRun {
-                gate: self,
+        if !clock_steps(self.timer.tcr, tin) & !self.timer.takes_rise(tin) {
+            return Run {
+                part: self,
                 used: 0,
             };
         }
-        let run = clocks::clocks(timer, tin, n, passed, row, at);
-        let next = run.timer;
-        self.timer = next;
-        GateRun {
-            gate: self,
+        let run = clocks::clocks(self.timer, tin, n, passed, row, at);
+        Run {
+            part: Gate {
+                timer: run.part,
+                ..self
+            },
             used: run.used,
         }
     }
@@ -76,15 +77,16 @@ impl Gate {
     // The gate after such clocks, and how many opened it: the first or none. Its number goes into the row at place `at`, as far as the
     // row has room.
     #[tactic(auto, unfolding(crate::specs::Ahead::risen_gate, crate::specs::Ahead::moments_risen))]
-    pub fn risen(mut self, passed: ClockNumber, row: &mut [u32], at: usize) -> GateRun
+    pub fn risen(self, passed: ClockNumber, row: &mut [u32], at: usize) -> Run<Gate>
         ensures counted { result ≡ risen_gate self }
         ensures numbered { row.new ≡ sets row.old at (map clock_number (moments_risen passed.0 self)) }
     {
         let run = clocks::rises::risen(self.timer, passed, row, at);
-        let timer = run.timer;
-        self.timer = timer;
-        GateRun {
-            gate: self,
+        Run {
+            part: Gate {
+                timer: run.part,
+                ..self
+            },
             used: run.used,
         }
     }

@@ -11,9 +11,10 @@ impl Gate {
     pub fn fresh() -> Gate
         ensures { result ≡ fresh_gate }
     {
-        let timer = Timer::fresh();
-        let c = PortC::fresh();
-        Gate { timer: timer, c: c }
+        Gate {
+            timer: Timer::fresh(),
+            c: PortC::fresh(),
+        }
     }
 
     // Preload, counter, port C's latch and its outside levels are kept.

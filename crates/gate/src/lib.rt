@@ -16,17 +16,3 @@ pub struct Gate {
     pub timer: Timer,
     pub c: PortC,
 }
-
-// The gate after a clock, and whether that opened it.
-#[derive(Clone, Copy)]
-pub struct Gated {
-    pub gate: Gate,
-    pub opened: bool,
-}
-
-// The gate after many clocks, and how many of them opened it.
-#[derive(Clone, Copy)]
-pub struct GateRun {
-    pub gate: Gate,
-    pub used: usize,
-}

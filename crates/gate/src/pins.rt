@@ -13,8 +13,7 @@ impl Gate {
         ensures { result ≡ tin_event self level }
     {
         self.timer = self.timer.tin(self.c.tin(), level);
-        let byte = bits::with_bit(self.c.outside, PortC::TIN, level);
-        self.c.outside = byte;
+        self.c.outside = bits::with_bit(self.c.outside, PortC::TIN, level);
         self
     }
 
@@ -26,8 +25,7 @@ impl Gate {
         if n == PortC::TIN {
             return self.tin_event(level);
         }
-        let byte = bits::with_bit(self.c.outside, n, level);
-        self.c.outside = byte;
+        self.c.outside = bits::with_bit(self.c.outside, n, level);
         self
     }
 

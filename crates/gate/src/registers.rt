@@ -37,24 +37,12 @@ impl Gate {
         ensures { result ≡ gate_written self register v }
     {
         match register {
-            map::PCDDR => {
-                self.c.direction = v;
-            }
-            map::PCDR => {
-                self.c.latch = v;
-            }
-            map::TCR => {
-                self = self.write_tcr(v);
-            }
-            map::TIVR => {
-                self.timer.tivr = v;
-            }
-            map::CPRH..=map::CPRL => {
-                self = self.write_preload(register - map::CPRH, v);
-            }
-            map::TSR => {
-                self = self.write_tsr(v);
-            }
+            map::PCDDR => self.c.direction = v,
+            map::PCDR => self.c.latch = v,
+            map::TCR => return self.write_tcr(v),
+            map::TIVR => self.timer.tivr = v,
+            map::CPRH..=map::CPRL => return self.write_preload(register - map::CPRH, v),
+            map::TSR => return self.write_tsr(v),
             _ => {}
         }
         self

@@ -28,13 +28,12 @@ use Rattle.timer.specs.Registers.{byte_of, tout_of, fresh_timer, reset_of as res
 use Rattle.gate.specs.Fresh.{fresh_gate, reset_gate}
 use Rattle.gate.specs.Parts.{with_timer, with_c}
 use Rattle.parallel.specs.Clocking.{clocked_parallel}
-use Rattle.parallel.specs.Data.{drawn_by, read_data, sent_by, latched_by, write_data}
+use Rattle.parallel.specs.Data.{DataRead, drawn_by, read_data, sent_by, latched_by, write_data}
 use Rattle.parallel.specs.Fresh.{fresh_parallel, reset_of as reset_parallel}
 use Rattle.parallel.specs.Interrupts.{first_status_of, second_status_of, statuses_of, enabled_of as interrupts_of, psr_of}
 use Rattle.parallel.specs.Parts.{link_of, with_link, with_ports, with_links, own_port, rules_at}
 use Rattle.parallel.specs.Pins.{pins_of, asserts_of, first_edge, second_edge, with_first, with_second, first_pin, second_pin, parallel_pins, parallel_pinned, second_level}
 use Rattle.parallel.specs.Switching.{write_pgcr, write_psrr, write_control, write_psr}
-use Rattle.parallel.specs.declared.DataRead.{DataRead}
 use Rattle.parallel.specs.declared.Parallel.{Parallel}
 use Rattle.device.specs.Clocking.{clocked_device, after}
 use Rattle.device.specs.Events.{effect, made}
@@ -186,7 +185,7 @@ module _ (d : Device) (h : Unset d.parallel) where
 clocked : (n : ℕ) (d : Device) → Unset d.parallel → Unset (after n d).parallel
 unfolding after clocked_device clocked_parallel
 clocked zero d h = h
-clocked (suc n) d h = clocked n (clocked_device d).device h
+clocked (suc n) d h = clocked n (clocked_device d).part h
 
 -- no event is a write of PIVR
 abbrev pub PivrUnwritten : Event → Type 0

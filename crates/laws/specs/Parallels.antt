@@ -15,13 +15,12 @@ use Rattle.port.specs.declared.Link.{Link}
 use Rattle.port.specs.declared.Rules.{Rules}
 use Rattle.parallel.specs.Parts.{link_of, with_link, with_ports, rules_at}
 use Rattle.parallel.specs.Pins.{asserts_of, first_edge, second_edge, with_first, with_second, first_pin, second_pin}
-use Rattle.parallel.specs.Data.{drawn_by, read_data, sent_by, latched_by, write_data}
+use Rattle.parallel.specs.Data.{DataRead, drawn_by, read_data, sent_by, latched_by, write_data}
 use Rattle.parallel.specs.Switching.{write_pgcr, psrr_bits, write_psrr, pivr_bits, write_pivr, write_control, write_psr}
 use Rattle.parallel.specs.Clocking.{clocked_parallel}
 use Rattle.parallel.specs.Fresh.{fresh_parallel, reset_of}
 use Rattle.parallel.specs.Validity.{sound_of}
 use Rattle.parallel.specs.declared.Parallel.{Parallel}
-use Rattle.parallel.specs.declared.DataRead.{DataRead}
 use Rattle.laws.specs.Links.{IsSoundUnder, carried, first_edge_control, first_edge_kept, second_edge_control, second_edge_kept, counted_control}
 use Rattle.laws.specs.Links.{read_kept, written_kept, flags_kept, levels_unread, clock_kept, pgcr_kept, control_kept, reset_sound, fresh_sound}
 

@@ -16,9 +16,8 @@ use Rattle.port.specs.declared.Rules.{Rules}
 use Rattle.port.specs.declared.Pair.TheVariants.{H12, H34}
 use Rattle.parallel.specs.Parts.{link_of, with_link, with_links, with_ports, with_cells, own_port, rules_at}
 use Rattle.parallel.specs.Pins.{pins_of}
-use Rattle.parallel.specs.Data.{drawn_by, read_data}
+use Rattle.parallel.specs.Data.{DataRead, drawn_by, read_data}
 use Rattle.parallel.specs.declared.Parallel.{Parallel}
-use Rattle.parallel.specs.declared.DataRead.{DataRead}
 use Rattle.device.specs.Parts.{with_parallel}
 use Rattle.device.specs.Registers.{plainly, takes, read_of}
 use Rattle.device.specs.Events.{effect}

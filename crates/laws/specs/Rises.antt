@@ -42,7 +42,7 @@ module _ (t : Timer) (tin : Bool) (by : RunsByRises tin t) where
   level_comes level = simp (any_level t.tcr level tin by.rises, by.runs, by.rises) (held (not tin && level))
 
   -- '.. and takes effect at the next clock': the first of many clocks takes the step of a held rise, and the others do nothing.
-  pub clocks_take : t.phase.rise ≡ true → (n : ℕ) → Span tin (suc n) t (risen_of t).timer (λ k. mark (risen_of t).opened (suc k) [])
+  pub clocks_take : t.phase.rise ≡ true → (n : ℕ) → Span tin (suc n) t (risen_of t).part (λ k. mark (risen_of t).opened (suc k) [])
   unfolding takes_rise
   clocks_take rise n = rise_first tin t (no_step t.tcr tin by.runs by.rises) (both _ _ (both _ _ by.runs by.rises) rise) n
 

@@ -115,7 +115,7 @@ module _ (d : Device) (v : Valid d) where
             (λ _. rw (tin_level_lem d.gate level) (timers.tin_sound d.gate.timer (tin_level d.gate.c) level v.gate));
       }
 
-  clock_valid : Valid (clocked_device d).device
+  clock_valid : Valid (clocked_device d).part
   unfolding clocked_device clocked_gate
   clock_valid = record {
     parallel = parallels.clock_sound d.parallel v.parallel;
@@ -142,14 +142,14 @@ pub pin_stays : (d : Device) (pin : ℕ) (level : Bool) → valid_of d ≡ true 
 pin_stays d pin level h = valid_out (pin_of d pin level) (pin_valid d (valid_in d h) pin level)
 
 -- A valid device stays valid through a clock.
-pub clock_stays : (d : Device) → valid_of d ≡ true → valid_of (clocked_device d).device ≡ true
-clock_stays d h = valid_out (clocked_device d).device (clock_valid d (valid_in d h))
+pub clock_stays : (d : Device) → valid_of d ≡ true → valid_of (clocked_device d).part ≡ true
+clock_stays d h = valid_out (clocked_device d).part (clock_valid d (valid_in d h))
 
 -- A valid device stays valid through n clocks.
 pub clocks_stay : (n : ℕ) (d : Device) → valid_of d ≡ true → valid_of (after n d) ≡ true
 unfolding after
 clocks_stay zero d h = h
-clocks_stay (suc n) d h = clocks_stay n (clocked_device d).device (clock_stays d h)
+clocks_stay (suc n) d h = clocks_stay n (clocked_device d).part (clock_stays d h)
 
 -- A valid device stays valid through reset.
 pub reset_stays : (d : Device) → valid_of d ≡ true → valid_of (reset_of d) ≡ true

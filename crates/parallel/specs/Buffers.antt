@@ -12,9 +12,8 @@ use Rattle.port.specs.declared.Pair.TheVariants.{H12, H34}
 use Rattle.port.specs.declared.Buffer.{Buffer}
 use Rattle.parallel.specs.Parts.{parallel_with, link_of, with_link, own_port, rules_at}
 use Rattle.parallel.specs.Pins.{pins_of, accepted_of, first_edge}
-use Rattle.parallel.specs.Data.{drawn_by, read_data, sent_by, latched_by, write_data}
+use Rattle.parallel.specs.Data.{DataRead, drawn_by, read_data, sent_by, latched_by, write_data}
 use Rattle.parallel.specs.declared.Parallel.{Parallel}
-use Rattle.parallel.specs.declared.DataRead.{DataRead}
 
 abbrev pub buffer_of : Parallel → Pair → Buffer
 buffer_of p pair = buffer (own_port p pair).cells (link_of p pair)

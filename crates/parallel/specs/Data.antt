@@ -10,13 +10,17 @@ use Rattle.port.specs.declared.Rules.{Rules}
 use Rattle.parallel.specs.Parts.{link_of, with_link, own_port, with_cells, rules_at}
 use Rattle.parallel.specs.Pins.{pins_of}
 use Rattle.parallel.specs.declared.Parallel.{Parallel}
-use Rattle.parallel.specs.declared.DataRead.{DataRead}
 
 -- a read removes the pair's oldest element, from the cells that it stands in
 unfoldable pub drawn_by : Parallel → Pair → Rules → Parallel
 drawn_by p pair rules =
     let link = link_of p pair in
     with_link (with_cells p (drawn_of rules.a link.held p.a.cells) (drawn_of rules.b link.held p.b.cells)) pair (read_of link rules)
+
+-- ports and pairs after a data read, and the byte read
+pub record DataRead : Type 0 where
+  pub parallel : Parallel
+  pub byte : ℕ
 
 abbrev pub data_read : Parallel → ℕ → DataRead
 data_read p byte = record { parallel = p; byte = byte }

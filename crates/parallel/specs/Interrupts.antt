@@ -1,7 +1,6 @@
 -- Statuses, PSR, the port interrupt request and the port acknowledge (01, 'Interrupts', 'Registers'; 000, 2.2.1, 4.2, 4.4 and 4.8).
-use Rattle.std.specs.Prelude.{ℕ, Bool}
+use Rattle.std.specs.Prelude.{ℕ, Bool, Option}
 use Rattle.bits.specs.Field.{packed_of}
-use Rattle.event.specs.declared.Answer.{Answer}
 use Rattle.interrupt.specs.Enabling.{enabled_in}
 use Rattle.interrupt.specs.Answering.{acknowledge_of}
 use Rattle.interrupt.specs.declared.Flags.{Flags}
@@ -35,5 +34,5 @@ unfoldable pub enabled_of : Parallel → Flags
 enabled_of p = enabled_in (statuses_of p) p.h12.control p.h34.control p.psrr
 
 -- a port acknowledge
-unfoldable pub port_acknowledge : Parallel → Answer
+unfoldable pub port_acknowledge : Parallel → Option ℕ
 port_acknowledge p = acknowledge_of p.psrr p.pivr (enabled_of p)

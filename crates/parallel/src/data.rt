@@ -3,8 +3,7 @@ ghost use Rattle.std.specs.Prelude.{◌≡◌};
 ghost use Rattle.parallel.specs.Data.{read_data, write_data};
 
 use crate::Parallel;
-use port::Pair;
-use port::control::inputs;
+use port::{Buffer, Pair};
 
 impl Parallel {
     // The byte that a read of the data register of a pair's own port gives.
@@ -13,27 +12,28 @@ impl Parallel {
         ensures { result ≡ (read_data self pair).byte }
     {
         let port = self.own(pair);
-        let cells = port.cells;
-        let rules = self.rules(pair);
-        let way = rules.way;
-        if inputs(way) {
-            let held = self.link(pair).held;
-            return bits::chosen(cells.oldest(held), cells.latch, port.direction);
-        }
-        bits::chosen(self.pins(pair), cells.latch, port.direction)
+        let level = if self.rules(pair).way.inputs() {
+            port.cells.oldest(self.link(pair).held)
+        } else {
+            self.pins(pair)
+        };
+        bits::chosen(level, port.cells.latch, port.direction)
     }
 
     // What that read leaves: in submode 00 it removes the oldest element.
+    #[tactic(auto, using(crate::specs::Buffers::read_moves))]
+    #[inline]
     pub fn read(self, pair: Pair) -> Parallel
         ensures { result ≡ (read_data self pair).parallel }
     {
-        self.with_buffer(pair, self.buffer(pair).read(self.rules(pair)))
+        self.stepped(pair, Buffer::read)
     }
 
     // A write of the data register of a pair's own port.
+    #[tactic(auto, using(crate::specs::Buffers::write_moves))]
     pub fn write(self, pair: Pair, v: u8) -> Parallel
         ensures { result ≡ write_data self pair v }
     {
-        self.with_buffer(pair, self.buffer(pair).written(self.rules(pair), v))
+        self.stepped(pair, |buffer, rules| buffer.written(rules, v))
     }
 }

@@ -11,18 +11,14 @@ impl Parallel {
     pub fn fresh() -> Parallel
         ensures { result ≡ fresh_parallel }
     {
-        let a = Port::fresh();
-        let b = Port::fresh();
-        let one = Link::fresh();
-        let two = Link::fresh();
         Parallel {
             pgcr: 0,
             psrr: 0,
             pivr: Parallel::VECTOR,
-            a: a,
-            b: b,
-            h12: one,
-            h34: two,
+            a: Port::fresh(),
+            b: Port::fresh(),
+            h12: Link::fresh(),
+            h34: Link::fresh(),
         }
     }
 

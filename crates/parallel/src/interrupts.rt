@@ -4,7 +4,6 @@ ghost use Rattle.interrupt.specs.Enabling.{any_of};
 ghost use Rattle.parallel.specs.Interrupts.{first_status_of, second_status_of, statuses_of, psr_of, enabled_of, port_acknowledge};
 
 use crate::Parallel;
-use event::Answer;
 use interrupt::Flags;
 use interrupt::answering::acknowledge;
 use port::Pair;
@@ -15,8 +14,7 @@ impl Parallel {
     fn first_status(self, pair: Pair) -> bool
         ensures { result ≡ first_status_of self pair }
     {
-        let link = self.link(pair);
-        link.first_status(self.rules(pair))
+        self.link(pair).first_status(self.rules(pair))
     }
 
     // H2S or H4S.
@@ -24,8 +22,7 @@ impl Parallel {
     fn second_status(self, pair: Pair) -> bool
         ensures { result ≡ second_status_of self pair }
     {
-        let link = self.link(pair);
-        link.second_status(self.rules(pair))
+        self.link(pair).second_status(self.rules(pair))
     }
 
     // H1S to H4S.
@@ -78,7 +75,7 @@ impl Parallel {
 
     // A port acknowledge, which changes nothing.
     #[tactic(auto, unfolding(crate::specs::Interrupts::port_acknowledge))]
-    pub fn acknowledge(self) -> Answer
+    pub fn acknowledge(self) -> Option<u8>
         ensures { result ≡ port_acknowledge self }
     {
         acknowledge(self.psrr, self.pivr, self.enabled())

@@ -35,10 +35,3 @@ impl Parallel {
     // The bits that a write of PIVR stores.
     pub const PIVR_BITS: u8 = 0xfc;
 }
-
-// Ports and pairs after a data read, and the byte read: what the definition of a data read hands back. The code gives each by itself.
-#[derive(Clone, Copy)]
-pub struct DataRead {
-    pub parallel: Parallel,
-    pub byte: u8,
-}

@@ -1,6 +1,7 @@
 // A pair by its name, its own port, and what the registers say of it (01, 'Mode 0').
 ghost use Rattle.std.specs.Prelude.{◌≡◌};
 ghost use Rattle.parallel.specs.Buffers.{buffer_of, with_buffer};
+ghost use Rattle.port.specs.declared.Buffer.{Buffer};
 ghost use Rattle.parallel.specs.Parts.{with_links, link_of, with_link, own_port, rules_at};
 
 use crate::Parallel;
@@ -12,12 +13,7 @@ impl Parallel {
     pub(crate) fn link(self, pair: Pair) -> Link
         ensures { result ≡ link_of self pair }
     {
-        let one = self.h12;
-        let two = self.h34;
-        match pair {
-            Pair::H12 => one,
-            Pair::H34 => two,
-        }
+        pair.pick(self.h12, self.h34)
     }
 
     // Another pair in its place.
@@ -26,12 +22,8 @@ impl Parallel {
         ensures { result ≡ with_link self pair link }
     {
         match pair {
-            Pair::H12 => {
-                self.h12 = link;
-            }
-            Pair::H34 => {
-                self.h34 = link;
-            }
+            Pair::H12 => self.h12 = link,
+            Pair::H34 => self.h34 = link,
         }
         self
     }
@@ -50,52 +42,43 @@ impl Parallel {
     pub(crate) fn own(self, pair: Pair) -> Port
         ensures { result ≡ own_port self pair }
     {
-        let one = self.a;
-        let two = self.b;
-        match pair {
-            Pair::H12 => one,
-            Pair::H34 => two,
-        }
+        pair.pick(self.a, self.b)
     }
 
     // A pair with the cells of its own port.
     pub fn buffer(self, pair: Pair) -> Buffer
         ensures { result ≡ buffer_of self pair }
     {
-        let port = self.own(pair);
-        let cells = port.cells;
         Buffer {
-            cells: cells,
+            cells: self.own(pair).cells,
             link: self.link(pair),
         }
     }
 
-    // Others in their place.
+    // Others in their place: other fields than `with_link` sets.
     #[tactic(auto, unfolding(crate::specs::Buffers::with_buffer))]
     pub fn with_buffer(mut self, pair: Pair, buffer: Buffer) -> Parallel
         ensures { result ≡ with_buffer self pair buffer }
     {
-        let cells = buffer.cells;
-        let link = buffer.link;
         match pair {
             Pair::H12 => {
-                let port = Port {
-                    cells: cells,
-                    ..self.a
-                };
-                self.a = port;
-                self.h12 = link;
+                self.a.cells = buffer.cells;
+                self.h12 = buffer.link;
             }
             Pair::H34 => {
-                let port = Port {
-                    cells: cells,
-                    ..self.b
-                };
-                self.b = port;
-                self.h34 = link;
+                self.b.cells = buffer.cells;
+                self.h34 = buffer.link;
             }
         }
         self
+    }
+
+    // A pair's buffer after a step that the pair's rules guide.
+    pub(crate) fn stepped<F: FnOnce(Buffer, Rules) -> Buffer>(self, pair: Pair, step: F) -> Parallel
+        requires { F.IsAlwaysCallable step }
+        ensures { (b : Buffer) × F.post step (buffer_of self pair) (rules_at self pair) b × (result ≡ with_buffer self pair b) }
+    {
+        self.with_buffer(pair, step(self.buffer(pair), self.rules(pair)))
     }
 
     // What the registers say of a pair.
@@ -103,7 +86,6 @@ impl Parallel {
     pub fn rules(self, pair: Pair) -> Rules
         ensures { result ≡ rules_at self pair }
     {
-        let link = self.link(pair);
-        Rules::of(pair, self.pgcr, link.control)
+        Rules::of(pair, self.pgcr, self.link(pair).control)
     }
 }

@@ -4,8 +4,7 @@ ghost use Rattle.parallel.specs.Pins.{pins_of, asserts_of, first_edge, second_ed
 
 use crate::Parallel;
 use event::map;
-use port::Pair;
-use port::control::{first_sense, second_sense};
+use port::{Link, Pair};
 
 // A pin goes from one outside level to another: it comes to be asserted.
 #[tactic(auto, unfolding(crate::specs::Pins::asserts_of))]
@@ -26,13 +25,12 @@ impl Parallel {
     }
 
     // An asserted edge of H1 or H3: an accepted one moves the cells that the pair's elements stand in.
+    #[tactic(auto, using(crate::specs::Buffers::edge_moves))]
     fn first_edge(self, pair: Pair) -> Parallel
         ensures { result ≡ first_edge self pair }
     {
-        self.with_buffer(
-            pair,
-            self.buffer(pair).edge(self.rules(pair), self.pins(pair)),
-        )
+        let pins = self.pins(pair);
+        self.stepped(pair, |buffer, rules| buffer.edge(rules, pins))
     }
 
     // An asserted edge of H2 or H4.
@@ -40,41 +38,31 @@ impl Parallel {
     fn second_edge(self, pair: Pair) -> Parallel
         ensures { result ≡ second_edge self pair }
     {
-        let link = self.link(pair);
-        let rules = self.rules(pair);
-        self.with_link(pair, link.second_edge(rules))
+        self.with_link(pair, self.link(pair).second_edge(self.rules(pair)))
     }
 
     // H1 or H3 at a level.
-    #[tactic(auto, unfolding(crate::specs::Pins::with_first, crate::specs::Parts::with_link, crate::specs::Parts::link_of))]
-    pub fn with_first(mut self, pair: Pair, level: bool) -> Parallel
+    #[tactic(auto, unfolding(crate::specs::Pins::with_first))]
+    pub fn with_first(self, pair: Pair, level: bool) -> Parallel
         ensures { result ≡ with_first self pair level }
     {
-        match pair {
-            Pair::H12 => {
-                self.h12.level1 = level;
-            }
-            Pair::H34 => {
-                self.h34.level1 = level;
-            }
-        }
-        self
+        let link = Link {
+            level1: level,
+            ..self.link(pair)
+        };
+        self.with_link(pair, link)
     }
 
     // H2 or H4 at a level.
-    #[tactic(auto, unfolding(crate::specs::Pins::with_second, crate::specs::Parts::with_link, crate::specs::Parts::link_of))]
-    fn with_second(mut self, pair: Pair, level: bool) -> Parallel
+    #[tactic(auto, unfolding(crate::specs::Pins::with_second))]
+    fn with_second(self, pair: Pair, level: bool) -> Parallel
         ensures { result ≡ with_second self pair level }
     {
-        match pair {
-            Pair::H12 => {
-                self.h12.level2 = level;
-            }
-            Pair::H34 => {
-                self.h34.level2 = level;
-            }
-        }
-        self
+        let link = Link {
+            level2: level,
+            ..self.link(pair)
+        };
+        self.with_link(pair, link)
     }
 
     // A level comes to H1 or H3. Each pair has an arm of its own, so that the compiler keeps the edge apart from a level that is none
@@ -85,7 +73,7 @@ impl Parallel {
     {
         match pair {
             Pair::H12 => {
-                let edge = asserts(self.h12.level1, level, first_sense(Pair::H12, self.pgcr));
+                let edge = asserts(self.h12.level1, level, Pair::H12.first_sense(self.pgcr));
                 self.h12.level1 = level;
                 if edge {
                     return self.first_edge(Pair::H12);
@@ -93,7 +81,7 @@ impl Parallel {
                 self
             }
             Pair::H34 => {
-                let edge = asserts(self.h34.level1, level, first_sense(Pair::H34, self.pgcr));
+                let edge = asserts(self.h34.level1, level, Pair::H34.first_sense(self.pgcr));
                 self.h34.level1 = level;
                 if edge {
                     return self.first_edge(Pair::H34);
@@ -109,10 +97,11 @@ impl Parallel {
         ensures { result ≡ second_pin self pair level }
     {
         let link = self.link(pair);
-        if asserts(link.level2, level, second_sense(pair, self.pgcr)) {
-            return self.with_second(pair, level).second_edge(pair);
+        if asserts(link.level2, level, pair.second_sense(self.pgcr)) {
+            self.with_second(pair, level).second_edge(pair)
+        } else {
+            self.with_second(pair, level)
         }
-        self.with_second(pair, level)
     }
 
     // A level comes to any pin, as far as it concerns ports A and B and the pairs.
@@ -122,13 +111,11 @@ impl Parallel {
     {
         match pin {
             map::PA0..=map::PA7 => {
-                let byte = bits::with_bit(self.a.outside, pin, level);
-                self.a.outside = byte;
+                self.a.outside = bits::with_bit(self.a.outside, pin, level);
                 self
             }
             map::PB0..=map::PB7 => {
-                let byte = bits::with_bit(self.b.outside, pin - map::PB0, level);
-                self.b.outside = byte;
+                self.b.outside = bits::with_bit(self.b.outside, pin - map::PB0, level);
                 self
             }
             map::H1 => self.first_pin(Pair::H12, level),
@@ -144,7 +131,7 @@ impl Parallel {
     pub fn second_level(self, pair: Pair) -> bool
         ensures { result ≡ second_level self pair }
     {
-        let link = self.link(pair);
-        link.second_level(self.rules(pair), second_sense(pair, self.pgcr))
+        self.link(pair)
+            .second_level(self.rules(pair), pair.second_sense(self.pgcr))
     }
 }

@@ -6,7 +6,9 @@ use crate::Parallel;
 use port::Pair;
 
 impl Parallel {
+    // PGCR. Apart from its callers, so that a write of another register doesn't pay for it.
     #[tactic(auto, unfolding(crate::specs::Switching::write_pgcr))]
+    #[inline(never)]
     pub fn write_pgcr(mut self, v: u8) -> Parallel
         ensures { result ≡ write_pgcr self v }
     {
@@ -34,13 +36,13 @@ impl Parallel {
         self
     }
 
-    // PACR or PBCR.
+    // PACR or PBCR, apart from its callers for the same reason.
     #[tactic(auto, unfolding(crate::specs::Switching::write_control))]
+    #[inline(never)]
     pub fn write_control(self, pair: Pair, v: u8) -> Parallel
         ensures { result ≡ write_control self pair v }
     {
-        let link = self.link(pair);
-        self.with_link(pair, link.control_written(pair, self.pgcr, v))
+        self.with_link(pair, self.link(pair).control_written(pair, self.pgcr, v))
     }
 
     // Ones written to PSR clear edge flags.

@@ -11,13 +11,9 @@ impl Parallel {
     pub fn sound(self) -> bool
         ensures { result ≡ sound_of self }
     {
-        let h12 = self.h12;
-        let h34 = self.h34;
-        let one = h12.sound(self.rules(Pair::H12));
-        let two = h34.sound(self.rules(Pair::H34));
         !bits::bit(self.psrr, 7)
             & ((self.pivr & 3 == 0) | (self.pivr == Parallel::VECTOR))
-            & one
-            & two
+            & self.h12.sound(self.rules(Pair::H12))
+            & self.h34.sound(self.rules(Pair::H34))
     }
 }

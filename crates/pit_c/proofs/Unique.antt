@@ -1,5 +1,7 @@
 -- Each public function's contract, as the check reads it, leaves one possible result and one possible content of all that is lent
 -- to be written (01, 'How strict the contracts are').
+use Rattle.std.specs.Prelude.{ℕ, List}
+use Rattle.std.specs.Borrow.{MutBor}
 use mathlib.Core.Path.{◌≡◌, sym, ◌∙◌}
 use Rattle.bits.proofs.Unique.{OneResult}
 use Rattle.pit_c.proofs.calls.pit_valid.Reads as pit-valid-reads
@@ -26,24 +28,24 @@ pit_timer_acknowledge κs a r r' x x' p q = p ∙ sym q
 pub pit_levels : OneResult pit-levels-reads.Post
 pit_levels κs a r r' x x' p q = p ∙ sym q
 
-pub pit_fresh : (κs : _) (a : _) (r r' : _) (x x' : _) → pit-fresh-reads.Post κs a r x → pit-fresh-reads.Post κs a r' x'
-    → (r ≡ r') × (x.0.now ≡ x'.0.now)
+-- so is what it leaves in the device
+abbrev pub OneDevice : {K : Type 0} {A R T : K → Type 0} → ((κs : K) → A κs → R κs → MutBor (List ℕ) × T κs → Type 0) → Type 0
+OneDevice {K} {A} {R} {T} Post =
+    (κs : K) (a : A κs) (r r' : R κs) (x x' : MutBor (List ℕ) × T κs) → Post κs a r x → Post κs a r' x' → (r ≡ r') × (x.0.now ≡ x'.0.now)
+
+pub pit_fresh : OneDevice pit-fresh-reads.Post
 pit_fresh κs a r r' x x' p q = (p.0 ∙ sym q.0, p.1 ∙ sym q.1)
 
-pub pit_write : (κs : _) (a : _) (r r' : _) (x x' : _) → pit-write-reads.Post κs a r x → pit-write-reads.Post κs a r' x'
-    → (r ≡ r') × (x.0.now ≡ x'.0.now)
+pub pit_write : OneDevice pit-write-reads.Post
 pit_write κs a r r' x x' p q = (p.0 ∙ sym q.0, p.1 ∙ sym q.1)
 
-pub pit_read : (κs : _) (a : _) (r r' : _) (x x' : _) → pit-read-reads.Post κs a r x → pit-read-reads.Post κs a r' x'
-    → (r ≡ r') × (x.0.now ≡ x'.0.now)
+pub pit_read : OneDevice pit-read-reads.Post
 pit_read κs a r r' x x' p q = (p.0 ∙ sym q.0, p.1 ∙ sym q.1)
 
-pub pit_pin : (κs : _) (a : _) (r r' : _) (x x' : _) → pit-pin-reads.Post κs a r x → pit-pin-reads.Post κs a r' x'
-    → (r ≡ r') × (x.0.now ≡ x'.0.now)
+pub pit_pin : OneDevice pit-pin-reads.Post
 pit_pin κs a r r' x x' p q = (p.0 ∙ sym q.0, p.1 ∙ sym q.1)
 
-pub pit_reset : (κs : _) (a : _) (r r' : _) (x x' : _) → pit-reset-reads.Post κs a r x → pit-reset-reads.Post κs a r' x'
-    → (r ≡ r') × (x.0.now ≡ x'.0.now)
+pub pit_reset : OneDevice pit-reset-reads.Post
 pit_reset κs a r r' x x' p q = (p.0 ∙ sym q.0, p.1 ∙ sym q.1)
 
 -- the device, the openings and how many there were

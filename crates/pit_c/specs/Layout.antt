@@ -1,6 +1,7 @@
 -- The device as bytes, in the order of include/pit.h ('Layout of the device'). A flag is 1 or 0, and any byte but 0 is read as 1;
 -- preload and count are four bytes each, least significant first.
-use Rattle.std.specs.Prelude.{ℕ, ◌+◌, ◌*◌, ◌/◌, ◌%◌, Bool, not, List, [], ◌∷◌, eqb, get_or}
+use Rattle.std.specs.Prelude.{ℕ, ◌+◌, Bool, not, List, [], ◌∷◌, ◌++◌, eqb, get_or}
+use Rattle.std.specs.Int.{w32, to_le_bytes, from_le_bytes}
 use mir.Val.{bool_byte}
 use Rattle.port.specs.declared.Port.{Port}
 use Rattle.port.specs.declared.Link.{Link}
@@ -16,63 +17,44 @@ size = 53
 abbrev pub flag_byte : Bool → ℕ
 flag_byte on = bool_byte on
 
--- the bytes of a device, one by one, as the array that the code makes of them
+-- how many bytes a port and its pair take, without their outside levels
+abbrev pub side_size : ℕ
+side_size = 13
+
+-- those bytes
+abbrev pub side_row : Port → Link → List ℕ
+side_row port pair =
+    port.direction
+    ∷ pair.control
+    ∷ port.cells.latch
+    ∷ port.cells.initial
+    ∷ port.cells.first
+    ∷ port.cells.second
+    ∷ pair.held
+    ∷ port.cells.last
+    ∷ pair.strobe.wait
+    ∷ pair.strobe.pulse
+    ∷ flag_byte pair.strobe.asserted
+    ∷ flag_byte pair.flag1
+    ∷ flag_byte pair.flag2
+    ∷ []
+
+-- the bytes of a device, part by part
 abbrev pub row_of : Device → List ℕ
 row_of d =
-    d.parallel.pgcr
-    ∷ d.parallel.psrr
-    ∷ d.parallel.pivr
-    ∷ d.parallel.a.direction
-    ∷ d.parallel.h12.control
-    ∷ d.parallel.a.cells.latch
-    ∷ d.parallel.a.cells.initial
-    ∷ d.parallel.a.cells.first
-    ∷ d.parallel.a.cells.second
-    ∷ d.parallel.h12.held
-    ∷ d.parallel.a.cells.last
-    ∷ d.parallel.h12.strobe.wait
-    ∷ d.parallel.h12.strobe.pulse
-    ∷ flag_byte d.parallel.h12.strobe.asserted
-    ∷ flag_byte d.parallel.h12.flag1
-    ∷ flag_byte d.parallel.h12.flag2
-    ∷ d.parallel.b.direction
-    ∷ d.parallel.h34.control
-    ∷ d.parallel.b.cells.latch
-    ∷ d.parallel.b.cells.initial
-    ∷ d.parallel.b.cells.first
-    ∷ d.parallel.b.cells.second
-    ∷ d.parallel.h34.held
-    ∷ d.parallel.b.cells.last
-    ∷ d.parallel.h34.strobe.wait
-    ∷ d.parallel.h34.strobe.pulse
-    ∷ flag_byte d.parallel.h34.strobe.asserted
-    ∷ flag_byte d.parallel.h34.flag1
-    ∷ flag_byte d.parallel.h34.flag2
-    ∷ d.gate.c.direction
-    ∷ d.gate.c.latch
-    ∷ d.gate.timer.tcr
-    ∷ d.gate.timer.tivr
-    ∷ d.gate.timer.preload.0 % 0x100
-    ∷ d.gate.timer.preload.0 / 0x100 % 0x100
-    ∷ d.gate.timer.preload.0 / 0x10000 % 0x100
-    ∷ d.gate.timer.preload.0 / 0x1000000 % 0x100
-    ∷ d.gate.timer.count.0 % 0x100
-    ∷ d.gate.timer.count.0 / 0x100 % 0x100
-    ∷ d.gate.timer.count.0 / 0x10000 % 0x100
-    ∷ d.gate.timer.count.0 / 0x1000000 % 0x100
-    ∷ d.gate.timer.phase.prescaler.0
-    ∷ flag_byte d.gate.timer.phase.zds
-    ∷ flag_byte d.gate.timer.phase.square
-    ∷ flag_byte d.gate.timer.phase.due
-    ∷ d.parallel.a.outside
-    ∷ d.parallel.b.outside
-    ∷ d.gate.c.outside
-    ∷ flag_byte d.parallel.h12.level1
-    ∷ flag_byte d.parallel.h12.level2
-    ∷ flag_byte d.parallel.h34.level1
-    ∷ flag_byte d.parallel.h34.level2
-    ∷ flag_byte d.gate.timer.phase.rise
-    ∷ []
+    let p = d.parallel in
+    let c = d.gate.c in
+    let timer = d.gate.timer in
+    let phase = timer.phase in
+    (p.pgcr ∷ p.psrr ∷ p.pivr ∷ [])
+    ++ side_row p.a p.h12
+    ++ side_row p.b p.h34
+    ++ (c.direction ∷ c.latch ∷ timer.tcr ∷ timer.tivr ∷ [])
+    ++ to_le_bytes w32 timer.preload.0
+    ++ to_le_bytes w32 timer.count.0
+    ++ (phase.prescaler.0 ∷ flag_byte phase.zds ∷ flag_byte phase.square ∷ flag_byte phase.due ∷ [])
+    ++ (p.a.outside ∷ p.b.outside ∷ c.outside ∷ [])
+    ++ (flag_byte p.h12.level1 ∷ flag_byte p.h12.level2 ∷ flag_byte p.h34.level1 ∷ flag_byte p.h34.level2 ∷ flag_byte phase.rise ∷ [])
 
 -- the same under a name that everything else goes by, and that is not spelled out there
 unfoldable pub bytes_of : Device → List ℕ
@@ -88,7 +70,7 @@ flag_at l i = not (eqb (byte_at l i) 0)
 
 -- the number of four bytes, least significant first
 abbrev pub number_of : ℕ → ℕ → ℕ → ℕ → ℕ
-number_of b0 b1 b2 b3 = b0 + b1 * 0x100 + b2 * 0x10000 + b3 * 0x1000000
+number_of b0 b1 b2 b3 = from_le_bytes w32 (b0 ∷ b1 ∷ b2 ∷ b3 ∷ [])
 
 -- the number of the four bytes from place i on
 abbrev pub number_at : List ℕ → ℕ → ℕ
@@ -123,10 +105,6 @@ link_at l at levels = record {
   level1 = flag_at l levels;
   level2 = flag_at l (levels + 1);
 }
-
--- how many bytes a port and its pair take, without their outside levels
-abbrev pub side_size : ℕ
-side_size = 13
 
 -- the half of ports and handshakes that bytes, and its ports and pairs, stand for
 abbrev pub parallel_with : List ℕ → Port → Port → Link → Link → Parallel
@@ -179,7 +157,7 @@ unfoldable pub gate_of : List ℕ → Gate
 gate_of l = gate_with l (number_at l preload_place) (number_at l count_place)
 
 -- the device that bytes stand for
-unfoldable pub device_of : List ℕ → Device
+abbrev pub device_of : List ℕ → Device
 device_of l = record { parallel = parallel_of l; gate = gate_of l }
 
 -- the bytes of ports and handshakes beside the timer and port C that bytes stand for

@@ -112,5 +112,5 @@ module _ (d : Device) (a8 : pins_of d.parallel H12 < 2 ^ 8) (b8 : pins_of d.para
 
 -- every pin, of a device taken out of bytes
 pub level_bit : (l : List ℕ) → ((i : ℕ) → byte_at l i < 2 ^ 8) → (n : ℕ) → n < 28 → bit_of (levels_of (device_of l)) n ≡ level_of (device_of l) n
-unfolding pins_of own_port pins_c shown_of device_of parallel_of
+unfolding pins_of own_port pins_c shown_of parallel_of
 level_bit l b = shown (device_of l) (chosen_lt _ _ _ (b _) (b _)) (chosen_lt _ _ _ (b _) (b _)) (packed_lt _ _ _ _ _ _ _ _)

@@ -1,8 +1,8 @@
 -- The layout loses nothing: a device is read back from its bytes as it was stored, and bytes with every flag 0 or 1 are stored back as
 -- they were read.
 use Rattle.std.specs.Prelude.{ℕ, zero, suc, ◌+◌, ◌*◌, ◌/◌, ◌%◌, ◌^◌, ◌<◌, ◌≡◌, refl, Bool, true, false, not, ◌||◌, List, [], ◌∷◌, eqb, length, drop, if◌then◌else◌}
-use Rattle.std.proofs.Common.{sym, mod-eq_of_lt, arith, drop_of_length-le, drop-cons}
-use Rattle.std.proofs.Math.Nat.{div-div-eq-div-mul}
+use Rattle.std.proofs.Common.{sym, arith, drop_of_length-le, drop-cons}
+use Rattle.std.proofs.lemmas.Nat.{from_le_bytes-to_le_bytes_4}
 use Rattle.bits.specs.Choice.{branch}
 use Rattle.device.specs.declared.Device.{Device}
 use Rattle.pit_c.specs.Layout.{size, flag_byte, bytes_of, byte_at, flag_at, number_of, number_at, preload_place, count_place}
@@ -17,21 +17,11 @@ flag_back : (b : Bool) → not (eqb (flag_byte b) 0) ≡ b
 flag_back true = refl
 flag_back false = refl
 
-joined : (n q r s a b c : ℕ) → n ≡ q * 0x100 + a → q ≡ r * 0x100 + b → r ≡ s * 0x100 + c → a + b * 0x100 + c * 0x10000 + s * 0x1000000 ≡ n
-joined n q r s a b c e f g = omega arith
-
--- a 32-bit number is that of its four bytes
-number_back : (n : ℕ) → n < 2 ^ 32 → number_of (n % 0x100) (n / 0x100 % 0x100) (n / 0x10000 % 0x100) (n / 0x1000000 % 0x100) ≡ n
-number_back n h =
-    let r : n / 0x10000 ≡ n / 0x100 / 0x100 = sym (div-div-eq-div-mul n 0x100 0x100) in
-    let s : n / 0x1000000 ≡ n / 0x10000 / 0x100 = sym (div-div-eq-div-mul n 0x10000 0x100) in
-    let t : n / 0x1000000 % 0x100 ≡ n / 0x1000000 = mod-eq_of_lt (omega arith) in
-    rw t (joined n (n / 0x100) (n / 0x10000) (n / 0x1000000) _ _ _ (omega arith) (rw r (omega arith)) (rw s (omega arith)))
-
 -- a device is read back as it was stored
 pub device_back : (d : Device) → Fits d → device_of (bytes_of d) ≡ d
-unfolding device_of parallel_of gate_of bytes_of
-device_back d f = simp (flag_back, number_back d.gate.timer.preload.0 f.preload, number_back d.gate.timer.count.0 f.count)
+unfolding parallel_of gate_of bytes_of
+device_back d f =
+    simp (flag_back, from_le_bytes-to_le_bytes_4 d.gate.timer.preload.0 f.preload, from_le_bytes-to_le_bytes_4 d.gate.timer.count.0 f.count)
 
 -- four bytes make a 32-bit number
 number_lt : (l : List ℕ) → ((i : ℕ) → byte_at l i < 2 ^ 8) → (i : ℕ) → number_at l i < 2 ^ 32
@@ -39,7 +29,7 @@ number_lt l b i = omega (arith, b i, b (i + 1), b (i + 2), b (i + 3))
 
 -- every device taken out of bytes is such a device
 pub taken_fits : (l : List ℕ) → ((i : ℕ) → byte_at l i < 2 ^ 8) → Fits (device_of l)
-unfolding device_of gate_of
+unfolding gate_of
 taken_fits l b = record { preload = number_lt l b preload_place; count = number_lt l b count_place }
 
 -- where the flags stand
@@ -104,7 +94,7 @@ tidy l p (suc n) i =
 
 -- bytes are stored back as they were read
 pub bytes_back : (l : List ℕ) → Plain l → bytes_of (device_of l) ≡ l
-unfolding device_of parallel_of gate_of bytes_of
+unfolding parallel_of gate_of bytes_of
 bytes_back l p =
     let m = same_at l p.bytes preload_place in
     let n = same_at l p.bytes count_place in

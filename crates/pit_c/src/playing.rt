@@ -1,28 +1,31 @@
 // The function of include/pit.h that plays a list.
-ghost use Rattle.std.specs.Prelude.{◌≡◌, length};
-ghost use Rattle.pit_c.specs.Playing.{totals_count, totals_of, play_answer, play_device, play_answers, play_openings, play_totals};
+ghost use Rattle.std.specs.Prelude.{◌≡◌};
+ghost use Rattle.play.specs.Play.{outcome_of};
+ghost use Rattle.pit_c.specs.Playing.{totals_of, play_answer, play_device, play_answers, play_openings, play_totals};
 
 use crate::calls::WRONG_SIZE;
-use crate::layout::{SIZE, device_of, put_whole};
-use play::Outcome;
+use crate::layout::{device_of, put_whole};
+use play::Played;
 
 // How many totals there are.
 const TOTALS: usize = 4;
 
-// Stores a refusal's place, the answer bytes, the openings and the clocks.
-#[tactic(auto, unfolding(crate::specs::Playing::totals_of))]
-fn put_totals(outcome: Outcome, totals: &mut [u64])
-    requires { length totals.old ≡ totals_count }
-    ensures { totals.new ≡ totals_of outcome }
+// A refusal's place, the answer bytes, the openings and the clocks.
+fn totals_of(played: Played) -> [u64; TOTALS]
+    ensures { result ≡ totals_of (outcome_of played) }
 {
-    totals[0] = outcome.place as u64;
-    totals[1] = outcome.answers as u64;
-    totals[2] = outcome.openings as u64;
-    totals[3] = outcome.clocks as u64;
+    match played.totals {
+        Ok(totals) => [
+            0,
+            totals.answers as u64,
+            totals.openings as u64,
+            totals.clocks as u64,
+        ],
+        Err(refused) => [refused.place as u64, 0, 0, 0],
+    }
 }
 
 // Plays a list. A refusal leaves the device's bytes as they were.
-#[tactic(auto, unfolding(crate::specs::Playing::play_answer, crate::specs::Playing::play_device, crate::specs::Playing::play_answers, crate::specs::Playing::play_openings, crate::specs::Playing::play_totals))]
 #[unsafe(no_mangle)]
 pub extern "C" fn pit_play(
     device: &mut [u8],
@@ -37,17 +40,19 @@ pub extern "C" fn pit_play(
     ensures openings { openings.new ≡ play_openings device.old list.now answers.old openings.old totals.old }
     ensures totals { totals.new ≡ play_totals device.old list.now answers.old openings.old totals.old }
 {
-    if device.len() != SIZE {
+    let Some(bytes) = device.as_mut_array() else {
         return WRONG_SIZE;
-    }
-    if totals.len() != TOTALS {
+    };
+    let Some(totals) = totals.as_mut_array() else {
         return WRONG_SIZE;
+    };
+    let played = play::play(list, device_of(bytes), answers, openings);
+    *totals = totals_of(played);
+    match played.totals {
+        Ok(_) => {
+            put_whole(played.device, bytes);
+            0
+        }
+        Err(refused) => u32::from(u8::from(refused.refusal)),
     }
-    let outcome = play::play(list, device_of(device), answers, openings);
-    put_totals(outcome, totals);
-    if outcome.refusal != 0 {
-        return outcome.refusal as u32;
-    }
-    put_whole(outcome.device, device);
-    0
 }

@@ -14,16 +14,15 @@ use Rattle.wire.specs.List.{Parsed, events, refused, prepend, follow, rest, pars
 use Rattle.wire.specs.Rest.{rest_reads}
 use Rattle.wire.specs.Finds.{moves}
 use Rattle.wire.specs.Word.{NoEvent}
-use Rattle.wire.specs.declared.next.Next.{Next}
-use Rattle.wire.specs.declared.next.Next.TheVariants.{Play, End, Refused}
+use Rattle.wire.specs.Next.{Next}
+use Rattle.wire.specs.Next.{Play, End, Refused}
 use Rattle.clocks.specs.Clocks.{numbers}
 use Rattle.clocks.specs.Filling.{sets_append}
 use Rattle.device.specs.Events.{Made, effect, made}
 use Rattle.device.specs.declared.Device.{Device}
 use Rattle.survey.specs.Needed.{event_answers, event_openings, event_clocks}
-use Rattle.play.specs.Play.{Result, result}
+use Rattle.play.specs.Play.{Outcome, Result, result}
 use Rattle.play.specs.Run.{stored}
-use Rattle.play.specs.declared.playing.Outcome.{Outcome}
 use Rattle.play.proofs.Leaves.{Tally, tally, Leaves}
 
 -- how a list ends that is played from a tally on: with a result, or, being refused, not at all

@@ -18,11 +18,10 @@ use Rattle.device.specs.Validity.{valid_of}
 use Rattle.device.specs.declared.Device.{Device}
 use Rattle.play.specs.Play.{result, accepted_outcome, refusal, acceptance, settled, settle, play_of}
 use Rattle.play.specs.Run.{stored}
-use Rattle.survey.specs.Check.{checked_of}
+use Rattle.survey.specs.Check.{Whole, Refused, checked_of}
 use Rattle.survey.specs.Needed.{answers_needed, openings_few}
 use Rattle.survey.specs.Survey.{opened_by}
 use Rattle.survey.specs.declared.checking.Sums.{Sums}
-use Rattle.survey.specs.declared.checking.Checked.TheVariants.{Whole, Refused}
 
 -- a list that the check takes, with what it asks for
 pub record Taken (s : List ℕ) (n : Sums) : Type 0 where

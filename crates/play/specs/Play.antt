@@ -1,11 +1,26 @@
 -- The call `play(list, device, answers, openings)` (01, 'The event list'): the list taken apart, then the effect of its events; the
 -- refusals in 01's order: 8, then 1 to 5 as the list is read, then 6, then 7.
-use Rattle.std.specs.Prelude.{ℕ, ◌≡◌, List, ◌++◌, ltb, length, drop, if◌then◌else◌}
+use Rattle.std.specs.Prelude.{ℕ, ◌≡◌, List, ◌++◌, ltb, length, drop, if◌then◌else◌, Result as Either, Ok, Err}
+use Rattle.std.proofs.Common.{refl, sym, ap, ◌∙◌, arith}
 use Rattle.wire.specs.List.{Parsed, events, refused, parsed}
 use Rattle.device.specs.Events.{Made, made}
 use Rattle.device.specs.Validity.{valid_of}
 use Rattle.device.specs.declared.Device.{Device}
-use Rattle.play.specs.declared.playing.Outcome.{Outcome}
+use Rattle.wire.specs.Told.{number_of, refused_by_one}
+use Rattle.wire.specs.declared.refusal.Refusal.{Refusal}
+use Rattle.wire.specs.declared.refusal.Refusal.TheVariants.{TooLong, CutShort, NoPin, FillSet, ByteFollows, AnswersRoom, OpeningsRoom, InvalidDevice}
+use Rattle.wire.specs.declared.refusal.Refused.{Refused}
+use Rattle.play.specs.declared.playing.Totals.{Totals}
+use Rattle.play.specs.declared.playing.Played.{Played}
+
+-- what a call hands back, by 01's numbers: a refusal, 0 for none, with its place in bits; the totals; the device
+pub record Outcome : Type 0 where
+  pub refusal : ℕ
+  pub place : ℕ
+  pub answers : ℕ
+  pub openings : ℕ
+  pub clocks : ℕ
+  pub device : Device
 
 -- everything that a call leaves: its outcome, and what the lent bytes and the lent row then hold
 pub record Result : Type 0 where
@@ -30,6 +45,43 @@ accepted_outcome m = record {
   clocks = m.clocks;
   device = m.device;
 }
+
+-- the outcome that is handed back with a device
+abbrev pub outcome_with : Device → Either Totals Refused → Outcome
+outcome_with d (Ok t) = record { refusal = 0; place = 0; answers = t.answers; openings = t.openings; clocks = t.clocks; device = d }
+outcome_with d (Err r) = refused_outcome (number_of r.refusal) r.place d
+
+abbrev pub outcome_of : Played → Outcome
+outcome_of p = outcome_with p.device p.totals
+
+-- one answer alone has an outcome
+above_zero : (x : Refusal) → number_of x ≡ 0 → ⊥
+above_zero TooLong = λ e. omega (arith, e)
+above_zero CutShort = λ e. omega (arith, e)
+above_zero NoPin = λ e. omega (arith, e)
+above_zero FillSet = λ e. omega (arith, e)
+above_zero ByteFollows = λ e. omega (arith, e)
+above_zero AnswersRoom = λ e. omega (arith, e)
+above_zero OpeningsRoom = λ e. omega (arith, e)
+above_zero InvalidDevice = λ e. omega (arith, e)
+
+totals_by_one : (c d : Device) (t u : Either Totals Refused) → outcome_with c t ≡ outcome_with d u → t ≡ u
+totals_by_one c d (Ok t) (Ok u) same =
+    λ i. Ok (record { answers = (same i).answers; openings = (same i).openings; clocks = (same i).clocks })
+totals_by_one c d (Ok t) (Err r) same = absurd (above_zero r.refusal (sym (ap (λ (o : Outcome). o.refusal) same)))
+totals_by_one c d (Err r) (Ok u) same = absurd (above_zero r.refusal (ap (λ (o : Outcome). o.refusal) same))
+totals_by_one c d (Err r) (Err q) same =
+    ap Err (refused_by_one r q (ap (λ (o : Outcome). o.refusal) same) (ap (λ (o : Outcome). o.place) same))
+
+device_is : (d : Device) (t : Either Totals Refused) → (outcome_with d t).device ≡ d
+device_is d (Ok t) = refl
+device_is d (Err r) = refl
+
+pub outcome_by_one : (p q : Played) → outcome_of p ≡ outcome_of q → p ≡ q
+outcome_by_one p q same =
+    let device : p.device ≡ q.device = sym (device_is p.device p.totals) ∙ ap (λ (o : Outcome). o.device) same ∙ device_is q.device q.totals in
+    let totals = totals_by_one p.device q.device p.totals q.totals same in
+    λ i. record { device = device i; totals = totals i }
 
 module _ (d : Device) (answers openings : List ℕ) where
   -- nothing lent is written
@@ -58,6 +110,6 @@ unfoldable pub play_of : List ℕ → Device → List ℕ → List ℕ → Resul
 play_of s d answers openings =
     if valid_of d then settle d answers openings (parsed s) else refusal d answers openings 8 0
 
--- what the contract of `play` says of the outcome and of what is left in the bytes and the row
-abbrev pub Plays : List ℕ → Device → List ℕ → List ℕ → Outcome → List ℕ → List ℕ → Type 0
-Plays s d answers openings o answers' openings' = result o answers' openings' ≡ play_of s d answers openings
+-- what the contract of `play` says of what it hands back and of what is left in the bytes and the row
+abbrev pub Plays : List ℕ → Device → List ℕ → List ℕ → Played → List ℕ → List ℕ → Type 0
+Plays s d answers openings p answers' openings' = result (outcome_of p) answers' openings' ≡ play_of s d answers openings

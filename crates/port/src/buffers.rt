@@ -2,7 +2,6 @@
 ghost use Rattle.std.specs.Prelude.{◌≡◌};
 ghost use Rattle.port.specs.Buffers.{buffer_edge, buffer_read, buffer_written};
 
-use crate::control::{inputs, outputs};
 use crate::{Buffer, Rules};
 
 impl Buffer {
@@ -11,10 +10,9 @@ impl Buffer {
     pub fn edge(self, rules: Rules, pins: u8) -> Buffer
         ensures { result ≡ buffer_edge self rules pins }
     {
-        let way = rules.way;
         let on = rules.accepts(self.link.held, self.link.strobe.asserted);
         Buffer {
-            cells: self.cells.moved(on, way, self.link.held, pins),
+            cells: self.cells.moved(on, rules.way, self.link.held, pins),
             link: self.link.first_edge(rules),
         }
     }
@@ -24,13 +22,13 @@ impl Buffer {
     pub fn read(self, rules: Rules) -> Buffer
         ensures { result ≡ buffer_read self rules }
     {
-        let way = rules.way;
-        if !inputs(way) {
-            return self;
-        }
-        Buffer {
-            cells: self.cells.drawn(true, self.link.held),
-            link: self.link.read(rules),
+        if rules.way.inputs() {
+            Buffer {
+                cells: self.cells.drawn(true, self.link.held),
+                link: self.link.read(rules),
+            }
+        } else {
+            self
         }
     }
 
@@ -39,14 +37,14 @@ impl Buffer {
     pub fn written(mut self, rules: Rules, v: u8) -> Buffer
         ensures { result ≡ buffer_written self rules v }
     {
-        let way = rules.way;
-        if !outputs(way) {
+        if rules.way.outputs() {
+            Buffer {
+                cells: self.cells.put(true, rules.enabled, self.link.held, v),
+                link: self.link.written(rules),
+            }
+        } else {
             self.cells.latch = v;
-            return self;
-        }
-        Buffer {
-            cells: self.cells.put(true, rules.enabled, self.link.held, v),
-            link: self.link.written(rules),
+            self
         }
     }
 }

@@ -10,8 +10,7 @@ impl Link {
     pub fn clocked(mut self, rules: Rules) -> Link
         ensures { result ≡ clocked_link self rules }
     {
-        let handshake = rules.handshake;
-        self.strobe = self.strobe.clocked(handshake);
+        self.strobe = self.strobe.clocked(rules.handshake);
         self
     }
 
@@ -28,8 +27,7 @@ impl Link {
     pub fn clocks(mut self, rules: Rules, n: u32) -> Link
         ensures { result ≡ clocks_of n self rules }
     {
-        let handshake = rules.handshake;
-        self.strobe = self.strobe.clocks(handshake, n);
+        self.strobe = self.strobe.clocks(rules.handshake, n);
         self
     }
 }

@@ -5,27 +5,27 @@ ghost use Rattle.port.specs.Data.{counted_of, read_count, written_count, read_of
 use crate::moving::{filled_count, removed_count};
 use crate::{Link, Rules, Way};
 
-// The count after a data read.
-#[tactic(auto, unfolding(crate::specs::Data::read_count))]
-fn read_count(way: Way, held: u8) -> u8
-    ensures { result ≡ read_count way held }
-{
-    match way {
-        Way::Input => removed_count(held),
-        Way::Output => held,
-        Way::Direct => held,
+impl Way {
+    // The count after a data read.
+    #[tactic(auto, unfolding(crate::specs::Data::read_count))]
+    fn read_count(self, held: u8) -> u8
+        ensures { result ≡ read_count self held }
+    {
+        match self {
+            Way::Input => removed_count(held),
+            Way::Output | Way::Direct => held,
+        }
     }
-}
 
-// The count after a data write.
-#[tactic(auto, unfolding(crate::specs::Data::written_count))]
-fn written_count(way: Way, enabled: bool, held: u8) -> u8
-    ensures { result ≡ written_count way enabled held }
-{
-    match way {
-        Way::Input => held,
-        Way::Output => { if enabled { filled_count(held) } else { held } }
-        Way::Direct => held,
+    // The count after a data write.
+    #[tactic(auto, unfolding(crate::specs::Data::written_count))]
+    fn written_count(self, enabled: bool, held: u8) -> u8
+        ensures { result ≡ written_count self enabled held }
+    {
+        match self {
+            Way::Output if enabled => filled_count(held),
+            _ => held,
+        }
     }
 }
 
@@ -49,8 +49,7 @@ impl Link {
     pub fn read(self, rules: Rules) -> Link
         ensures { result ≡ read_of self rules }
     {
-        let way = rules.way;
-        self.counted(rules, read_count(way, self.held))
+        self.counted(rules, rules.way.read_count(self.held))
     }
 
     // A data write.
@@ -58,7 +57,6 @@ impl Link {
     pub fn written(self, rules: Rules) -> Link
         ensures { result ≡ written_of self rules }
     {
-        let way = rules.way;
-        self.counted(rules, written_count(way, rules.enabled, self.held))
+        self.counted(rules, rules.way.written_count(rules.enabled, self.held))
     }
 }

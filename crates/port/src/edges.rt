@@ -2,8 +2,6 @@
 ghost use Rattle.std.specs.Prelude.{◌≡◌};
 ghost use Rattle.port.specs.Edges.{restarted_of, flushed_of, first_edge, second_edge};
 
-use crate::control::{direct, senses};
-use crate::moving::moved_count;
 use crate::{Link, Rules};
 
 impl Link {
@@ -12,8 +10,7 @@ impl Link {
     pub(crate) fn restarted(mut self, rules: Rules) -> Link
         ensures { result ≡ restarted_of self rules }
     {
-        let strobe = rules.begun(self.held);
-        self.strobe = strobe;
+        self.strobe = rules.begun(self.held);
         self
     }
 
@@ -33,14 +30,12 @@ impl Link {
     pub fn first_edge(mut self, rules: Rules) -> Link
         ensures { result ≡ first_edge self rules }
     {
-        let way = rules.way;
         if rules.accepts(self.held, self.strobe.asserted) {
-            self.held = moved_count(way, self.held);
+            self.held = rules.way.moved_count(self.held);
             return self.restarted(rules);
         }
-        if rules.enabled & direct(way) {
+        if rules.enabled & rules.way.direct() {
             self.flag1 = true;
-            return self;
         }
         self
     }
@@ -50,10 +45,8 @@ impl Link {
     pub fn second_edge(mut self, rules: Rules) -> Link
         ensures { result ≡ second_edge self rules }
     {
-        let handshake = rules.handshake;
-        if rules.enabled & senses(handshake) {
+        if rules.enabled & rules.handshake.senses() {
             self.flag2 = true;
-            return self;
         }
         self
     }

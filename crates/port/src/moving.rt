@@ -11,10 +11,7 @@ use crate::{Cells, Way};
 fn stored_count(held: u8) -> u8
     ensures { result ≡ stored_count held }
 {
-    if held == 0 {
-        return 1;
-    }
-    2
+    if held == 0 { 1 } else { 2 }
 }
 
 // The count after one is removed by a read, or taken by an edge.
@@ -22,10 +19,7 @@ fn stored_count(held: u8) -> u8
 pub(crate) fn removed_count(held: u8) -> u8
     ensures { result ≡ removed_count held }
 {
-    if held == 0 {
-        return 0;
-    }
-    held - 1
+    held.saturating_sub(1)
 }
 
 // The count after an output element is written.
@@ -33,24 +27,24 @@ pub(crate) fn removed_count(held: u8) -> u8
 pub(crate) fn filled_count(held: u8) -> u8
     ensures { result ≡ filled_count held }
 {
-    if held == 0 {
-        return 1;
+    match held {
+        0 => 1,
+        1 => 2,
+        _ => held,
     }
-    if held == 1 {
-        return 2;
-    }
-    held
 }
 
-// The count after an accepted edge.
-#[tactic(auto, unfolding(crate::specs::Moving::moved_count))]
-pub(crate) fn moved_count(way: Way, held: u8) -> u8
-    ensures { result ≡ moved_count way held }
-{
-    match way {
-        Way::Input => stored_count(held),
-        Way::Output => removed_count(held),
-        Way::Direct => held,
+impl Way {
+    // The count after an accepted edge.
+    #[tactic(auto, unfolding(crate::specs::Moving::moved_count))]
+    pub(crate) fn moved_count(self, held: u8) -> u8
+        ensures { result ≡ moved_count self held }
+    {
+        match self {
+            Way::Input => stored_count(held),
+            Way::Output => removed_count(held),
+            Way::Direct => held,
+        }
     }
 }
 
@@ -62,9 +56,9 @@ impl Cells {
     {
         if held == 0 {
             self.first = element;
-            return self;
+        } else {
+            self.second = element;
         }
-        self.second = element;
         self
     }
 
@@ -73,11 +67,10 @@ impl Cells {
     fn removed(mut self, held: u8) -> Cells
         ensures { result ≡ removed_of held self }
     {
-        if held == 0 {
-            return self;
+        if held != 0 {
+            self.last = self.first;
+            self.first = self.second;
         }
-        self.last = self.first;
-        self.first = self.second;
         self
     }
 
@@ -86,10 +79,7 @@ impl Cells {
     pub fn oldest(self, held: u8) -> u8
         ensures { result ≡ oldest_of held self }
     {
-        if held == 0 {
-            return self.last;
-        }
-        self.first
+        if held == 0 { self.last } else { self.first }
     }
 
     // An output element fills the final latch if empty, else the initial, else is dropped.
@@ -97,13 +87,10 @@ impl Cells {
     fn filled(mut self, held: u8, element: u8) -> Cells
         ensures { result ≡ filled_of held self element }
     {
-        if held == 0 {
-            self.latch = element;
-            return self;
-        }
-        if held == 1 {
-            self.initial = element;
-            return self;
+        match held {
+            0 => self.latch = element,
+            1 => self.initial = element,
+            _ => {}
         }
         self
     }
@@ -115,7 +102,6 @@ impl Cells {
     {
         if held > 1 {
             self.latch = self.initial;
-            return self;
         }
         self
     }
@@ -138,9 +124,10 @@ impl Cells {
         ensures { result ≡ moved_of on way held self pins }
     {
         if on {
-            return self.shifted(way, held, pins);
+            self.shifted(way, held, pins)
+        } else {
+            self
         }
-        self
     }
 
     // What a read does to these cells, where the pair moves them.
@@ -148,10 +135,7 @@ impl Cells {
     pub fn drawn(self, on: bool, held: u8) -> Cells
         ensures { result ≡ drawn_of on held self }
     {
-        if on {
-            return self.removed(held);
-        }
-        self
+        if on { self.removed(held) } else { self }
     }
 
     // What a written output element does to these cells, where the pair moves them.
@@ -159,12 +143,11 @@ impl Cells {
     pub fn put(mut self, on: bool, enabled: bool, held: u8, element: u8) -> Cells
         ensures { result ≡ put_of on enabled held self element }
     {
+        if on & enabled {
+            return self.filled(held, element);
+        }
         if on {
-            if enabled {
-                return self.filled(held, element);
-            }
             self.latch = element;
-            return self;
         }
         self
     }

@@ -2,7 +2,7 @@
 ghost use Rattle.std.specs.Prelude.{◌≡◌};
 ghost use Rattle.port.specs.Switching.{begins_of, pgcr_written, control_written, flags_cleared_of};
 
-use crate::control::{enabled, handshake_field, mode, submode_field};
+use crate::control::{handshake_field, mode, submode_field};
 use crate::{Link, Pair, Rules};
 
 impl Link {
@@ -23,15 +23,16 @@ impl Link {
         ensures { result ≡ pgcr_written self pair old new }
     {
         let same = mode(old) == mode(new);
-        let on = enabled(pair, new);
-        if same & (enabled(pair, old) == on) {
+        let on = pair.enabled(new);
+        if same & (pair.enabled(old) == on) {
             return self;
         }
         let rules = Rules::of(pair, new, self.control);
         if same & on {
-            return self.begins(rules);
+            self.begins(rules)
+        } else {
+            self.flushed(rules)
         }
-        self.flushed(rules)
     }
 
     // The control register is written.
@@ -50,10 +51,9 @@ impl Link {
         if was == is {
             return self;
         }
-        if (was < 4) & (is < 4) {
-            return self.restarted(rules);
+        if (was >= 4) | (is >= 4) {
+            self.flag2 = false;
         }
-        self.flag2 = false;
         self.restarted(rules)
     }
 

@@ -13,7 +13,7 @@ use Rattle.timer.specs.Parts.{with_prescaler, with_zds, with_rise}
 use Rattle.timer.specs.Running.{tin_goes, risen_of, takes_rise, clocked_timer, mark}
 use Rattle.timer.specs.Registers.{switched_of, controlled_of, cleared_of, preloaded_of, reset_of as reset_timer}
 use Rattle.timer.specs.declared.Timer.{Timer}
-use Rattle.timer.specs.declared.Counted.{Counted}
+use Rattle.timer.specs.declared.Stepped.{Stepped}
 use Rattle.clocks.specs.Numbers.{Rising, openings_rise, rising_append}
 use Rattle.clocks.specs.Spans.{mark_append}
 use Rattle.gate.specs.Clocking.{clocked_gate}
@@ -35,8 +35,8 @@ use Rattle.laws.specs.Touching.{any_write, any_gate_pin}
 use Rattle.promises.specs.Moments.{single, singly, lowers_to_zero, moments}
 
 -- t is left as c, and opened exactly when that lowered the counter from 1 to 0
-abbrev OpensRightly : Timer → Counted → Type 0
-OpensRightly t c = c.opened ≡ lowers_to_zero t c.timer
+abbrev OpensRightly : Timer → Stepped Timer → Type 0
+OpensRightly t c = c.opened ≡ lowers_to_zero t c.part
 
 -- a counter that is kept is not lowered
 both_never : (b : Bool) (n : ℕ) → false ≡ (b && eqb n 1 && eqb n 0)
@@ -114,13 +114,13 @@ pin_keeps d n level =
 one_and_more : (n : ℕ) (d : Device) (k : ℕ) → joined (effect d k (Clocks 1)) (effect (after 1 d) (k + 1) (Clocks n)) ≡ effect d k (Clocks (suc n))
 unfolding effect after openings
 one_and_more n d k =
-    let o = mark_append (clocked_device d).opened (suc k) [] (openings n (k + 1) (clocked_device d).device) in
+    let o = mark_append (clocked_device d).opened (suc k) [] (openings n (k + 1) (clocked_device d).part) in
     let p : k + 1 ≡ suc k = add-one k in
     let q : k + 1 + n ≡ k + suc n = omega arith in
     λ i. record {
-      device = after n (clocked_device d).device;
+      device = after n (clocked_device d).part;
       answers = [];
-      openings = (o ∙ ap (λ (x : ℕ). mark (clocked_device d).opened (suc k) (openings n x (clocked_device d).device)) p) i;
+      openings = (o ∙ ap (λ (x : ℕ). mark (clocked_device d).opened (suc k) (openings n x (clocked_device d).part)) p) i;
       clocks = q i;
     }
 
@@ -155,7 +155,7 @@ single_clocks (e ∷ es) d k =
 clocks_moments : (n : ℕ) (d : Device) (k : ℕ) → moments d k (replicate n (Clocks 1)) ≡ openings n k d
 unfolding moments effect after openings clocked_device clocked_gate
 clocks_moments zero d k = refl
-clocks_moments (suc n) d k = rw (clocks_moments n (clocked_device d).device (k + 1), ← (clock_opens (tin_level d.gate.c) d.gate.timer), add-one)
+clocks_moments (suc n) d k = rw (clocks_moments n (clocked_device d).part (k + 1), ← (clock_opens (tin_level d.gate.c) d.gate.timer), add-one)
 
 single_moments : (e : Event) (d : Device) (k : ℕ) → moments d k (single e) ≡ (effect d k e).openings
 unfolding moments effect reset_of reset_gate reset_timer

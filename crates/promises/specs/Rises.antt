@@ -261,7 +261,7 @@ registers_stand es d k waiting by =
 -- m is what clocks make of a held rise: its step, with preload and TCR bit 4 as they then stand; an opening carries the first clock's
 -- number; and none is held any more
 pub record Takes (d : Device) (k : ℕ) (m : Made) : Type 0 where
-  pub timer : m.device.gate.timer ≡ (risen_of d.gate.timer).timer
+  pub timer : m.device.gate.timer ≡ (risen_of d.gate.timer).part
   pub openings : m.openings ≡ mark (risen_of d.gate.timer).opened (suc k) []
   pub none : m.device.gate.timer.phase.rise ≡ false
 

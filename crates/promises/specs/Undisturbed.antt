@@ -16,7 +16,7 @@ use Rattle.timer.specs.Running.{tin_goes, after, openings, clocked_timer, mark}
 use Rattle.timer.specs.Parts.{with_tivr, with_zds}
 use Rattle.timer.specs.Registers.{cleared_of}
 use Rattle.timer.specs.declared.Timer.{Timer}
-use Rattle.timer.specs.declared.Counted.{Counted}
+use Rattle.timer.specs.declared.Stepped.{Stepped}
 use Rattle.clocks.specs.Alike.{Alike, after_alike, alike}
 use Rattle.clocks.specs.Kept.{after_keeps}
 use Rattle.clocks.specs.Spans.{split, step_clock}
@@ -81,14 +81,14 @@ module _ (level : Bool) where
   unfolding after
   same_after zero t h = refl
   same_after (suc n) t h =
-      same_after n (clocked_timer level t).timer (still_clocked 1 t h) ∙ ap (λ (c : Counted). after true n c.timer) (same_clock t h)
+      same_after n (clocked_timer level t).part (still_clocked 1 t h) ∙ ap (λ (c : Stepped Timer). after true n c.part) (same_clock t h)
 
   same_openings : (n k : ℕ) (t : Timer) → clock_steps t.tcr level ≡ true → openings level n k t ≡ openings true n k t
   unfolding after openings
   same_openings zero k t h = refl
   same_openings (suc n) k t h =
-      ap (mark (clocked_timer level t).opened (suc k)) (same_openings n (suc k) (clocked_timer level t).timer (still_clocked 1 t h))
-      ∙ ap (λ (c : Counted). mark c.opened (suc k) (openings true n (suc k) c.timer)) (same_clock t h)
+      ap (mark (clocked_timer level t).opened (suc k)) (same_openings n (suc k) (clocked_timer level t).part (still_clocked 1 t h))
+      ∙ ap (λ (c : Stepped Timer). mark c.opened (suc k) (openings true n (suc k) c.part)) (same_clock t h)
 
 -- a change of TIN that leaves a run on CLK running does nothing to it
 pub tin_quiet : (t : Timer) (old new : Bool) → clock_steps t.tcr new ≡ true → tin_goes t old new ≡ t

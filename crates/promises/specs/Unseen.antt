@@ -78,20 +78,20 @@ clock_blind : (t : Timer) (a b : Bool) → source_of t.tcr ≡ 0 → clocked_tim
 unfolding clocked_timer clock_steps takes_rise
 clock_blind t a b clk = rw (blind t.tcr a b clk)
 
-clock_source : (t : Timer) (a : Bool) → source_of t.tcr ≡ 0 → source_of (clocked_timer a t).timer.tcr ≡ 0
+clock_source : (t : Timer) (a : Bool) → source_of t.tcr ≡ 0 → source_of (clocked_timer a t).part.tcr ≡ 0
 unfolding after
 clock_source t a clk = ap source_of (after_keeps a 1 t).tcr ∙ clk
 
 after_blind : (n : ℕ) (t : Timer) (a b : Bool) → source_of t.tcr ≡ 0 → after a n t ≡ after b n t
 unfolding after
 after_blind zero t a b clk = refl
-after_blind (suc n) t a b clk = rw (clock_blind t a b clk) (after_blind n (clocked_timer b t).timer a b (clock_source t b clk))
+after_blind (suc n) t a b clk = rw (clock_blind t a b clk) (after_blind n (clocked_timer b t).part a b (clock_source t b clk))
 
 opens_blind : (n k : ℕ) (t : Timer) (a b : Bool) → source_of t.tcr ≡ 0 → openings a n k t ≡ openings b n k t
 unfolding openings
 opens_blind zero k t a b clk = refl
 opens_blind (suc n) k t a b clk =
-    rw (clock_blind t a b clk) (ap (mark (clocked_timer b t).opened (suc k)) (opens_blind n (suc k) (clocked_timer b t).timer a b (clock_source t b clk)))
+    rw (clock_blind t a b clk) (ap (mark (clocked_timer b t).opened (suc k)) (opens_blind n (suc k) (clocked_timer b t).part a b (clock_source t b clk)))
 
 -- a byte with one bit at a level is a byte
 levelled : (x n : ℕ) (level : Bool) → x < 256 → n < 8 → (if level then bit_or x (2 ^ n) else bit_and x (255 - 2 ^ n)) < 256

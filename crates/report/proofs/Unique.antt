@@ -1,19 +1,24 @@
 -- Each public function's contract, as the check reads it, leaves one possible result (01, 'How strict the contracts are'). Whether
 -- a write fails, and by which error, no contract can say: of those that write, one result is left where neither of two fails, and
 -- one content of a writer that tells what it holds.
-use Rattle.std.proofs.Common.{◌≡◌, sym, ◌∙◌, ap, ℕ, List, Option, Some, None, Result, Ok, Err, IsOk, IfOk, OnOk, IfSome}
+use Rattle.std.proofs.Common.{◌≡◌, sym, ◌∙◌, ap, ℕ, List, Option, Some, None, Result, Ok, Err, IsOk, IfOk, OnOk, IfSome, take}
 use Rattle.std.proofs.lemmas.Bool.{false≢true}
 use Rattle.std.specs.Io.KnownBytes.{Appends}
 use denote.RattleType.{RattleType}
 use denote.Param.Laws.{Laws}
 use mir.Syntax.{Dict}
 use Rattle.std.specs.declared.io.traits.Write.{Ghosts}
+use Rattle.std.specs.declared.io.traits.Read.{Ghosts as ReadGhosts}
+use Rattle.report.specs.Streams.{most_read}
 use Rattle.bits.proofs.Unique.{OneResult}
 use Rattle.report.proofs.digit.Reads as digit-reads
 use Rattle.report.proofs.hex.Reads as hex-reads
 use Rattle.report.proofs.refusal.Reads as refusal-reads
 use Rattle.report.proofs.openings.Reads as openings-reads
 use Rattle.report.proofs.clocks.Reads as clocks-reads
+use Rattle.report.proofs.streams.read_list.Reads as read_list-reads
+use Rattle.report.proofs.streams.unread.Reads as unread-reads
+use Rattle.report.proofs.streams.printed.Reads as printed-reads
 
 pub digit : OneResult digit-reads.Post
 digit κs a r r' s s' p q = p ∙ sym q
@@ -36,22 +41,43 @@ one_writing (Ok x) (Ok x') old new new' bs e e' w w' i i' =
 one_writing (Ok x) (Err _) old new new' bs e e' w w' i i' = absurd (false≢true i')
 one_writing (Err _) r' old new new' bs e e' w w' i i' = absurd (false≢true i)
 
-pub hex : (W : RattleType) (laws : Laws W) (write : Ghosts W.Denot) (dict : Dict) (κs : _) (a : _) (r r' : _) (s s' : _)
-    → hex-reads.Post W laws write dict κs a r s → hex-reads.Post W laws write dict κs a r' s'
-    → OneWriting r r' (write.contents a.0.now) (write.contents s.0.now) (write.contents s'.0.now)
+-- what meets a contract that tells what a writer holds, at the same arguments
+abbrev pub OneText : {K : Type 0} {A S : RattleType → Type 0} {E : Type 0}
+    → (Post : (W : RattleType) → Laws W → Ghosts W.Denot → Dict → K → A W → Result Unit E → S W → Type 0)
+    → (before : (W : RattleType) → A W → W.Denot) → (after : (W : RattleType) → S W → W.Denot) → Type 2
+OneText {A = A} {S = S} {E = E} Post before after =
+    (W : RattleType) (laws : Laws W) (write : Ghosts W.Denot) (dict : Dict) (κs : _) (a : A W) (r r' : Result Unit E) (s s' : S W)
+    → Post W laws write dict κs a r s → Post W laws write dict κs a r' s'
+    → OneWriting r r' (write.contents (before W a)) (write.contents (after W s)) (write.contents (after W s'))
+
+pub hex : OneText hex-reads.Post (λ W a. a.0.now) (λ W s. s.0.now)
 hex W laws write dict κs a r r' s s' p q = one_writing r r' _ _ _ _ p.0 q.0 p.1 q.1
 
-pub refusal : (W : RattleType) (laws : Laws W) (write : Ghosts W.Denot) (dict : Dict) (κs : _) (a : _) (r r' : _) (s s' : _)
-    → refusal-reads.Post W laws write dict κs a r s → refusal-reads.Post W laws write dict κs a r' s'
-    → OneWriting r r' (write.contents a.0.now) (write.contents s.0.now) (write.contents s'.0.now)
+pub refusal : OneText refusal-reads.Post (λ W a. a.0.now) (λ W s. s.0.now)
 refusal W laws write dict κs a r r' s s' p q = one_writing r r' _ _ _ _ p.0 q.0 p.1 q.1
 
-pub openings : (W : RattleType) (laws : Laws W) (write : Ghosts W.Denot) (dict : Dict) (κs : _) (a : _) (r r' : _) (s s' : _)
-    → openings-reads.Post W laws write dict κs a r s → openings-reads.Post W laws write dict κs a r' s'
-    → OneWriting r r' (write.contents a.0.now) (write.contents s.0.now) (write.contents s'.0.now)
+pub openings : OneText openings-reads.Post (λ W a. a.0.now) (λ W s. s.0.now)
 openings W laws write dict κs a r r' s s' p q = one_writing r r' _ _ _ _ p.0 q.0 p.1 q.1
 
-pub clocks : (W : RattleType) (laws : Laws W) (write : Ghosts W.Denot) (dict : Dict) (κs : _) (a : _) (r r' : _) (s s' : _)
-    → clocks-reads.Post W laws write dict κs a r s → clocks-reads.Post W laws write dict κs a r' s'
-    → OneWriting r r' (write.contents a.0.now) (write.contents s.0.now) (write.contents s'.0.now)
+pub clocks : OneText clocks-reads.Post (λ W a. a.0.now) (λ W s. s.0.now)
 clocks W laws write dict κs a r r' s s' p q = one_writing r r' _ _ _ _ p.0 q.0 p.1 q.1
+
+pub unread : OneText unread-reads.Post (λ W a. a.0.now) (λ W s. s.0.now)
+unread W laws write dict κs a r r' s s' p q = one_writing r r' _ _ _ _ p.0 q.0 p.1 q.1
+
+pub printed : OneResult printed-reads.Post
+printed κs a r r' s s' p q = p ∙ sym q
+
+one_reading : {V E : Type 0} (items : V → List ℕ) (known : Option (List ℕ)) (first : List ℕ → List ℕ) (r r' : Result V E)
+    → IfOk r (λ x. IfSome known (λ all. items x ≡ first all)) → IfOk r' (λ x. IfSome known (λ all. items x ≡ first all))
+    → IfSome known (λ _. IfOk r (λ x. IfOk r' (λ x'. items x ≡ items x')))
+one_reading items None first r r' p q = tt
+one_reading items (Some all) first (Err _) r' p q = tt
+one_reading items (Some all) first (Ok x) (Err _) p q = tt
+one_reading items (Some all) first (Ok x) (Ok x') p q = p ∙ sym q
+
+-- of a reader that tells its bytes, the same ones are read where neither of two reads fails
+pub read_list : (R : RattleType) (laws : Laws R) (read : ReadGhosts R.Denot) (dict drop : Dict) (κs : _) (a : _) (r r' : _) (s s' : _)
+    → read_list-reads.Post R laws read dict drop κs a r s → read_list-reads.Post R laws read dict drop κs a r' s'
+    → IfSome (read.remaining a.1.0) (λ _. IfOk r (λ x. IfOk r' (λ x'. x.items ≡ x'.items)))
+read_list R laws read dict drop κs a r r' s s' p q = one_reading _ _ (take most_read) r r' p.1 q.1

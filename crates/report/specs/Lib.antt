@@ -1,2 +1,3 @@
 pub mod Digit
 pub mod Lines
+pub mod Streams

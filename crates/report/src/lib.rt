@@ -2,34 +2,51 @@
 // what is written; of standard output none can, and the programs' output is compared with stored files.
 #![tactic(auto)]
 
-ghost use Rattle.std.specs.Prelude.{◌≡◌, IfOk, OnOk, take};
+mod streams;
+
+ghost use Rattle.std.specs.Prelude.{◌≡◌, IfOk, OnOk, Some};
 ghost use Rattle.std.specs.Io.KnownBytes.{Appends};
 ghost use Rattle.report.specs.Digit.{digit_of};
-ghost use Rattle.report.specs.Lines.{two_digits, refusal_line, opening_line, opening_lines, clocks_line};
+ghost use Rattle.report.specs.Lines.{two_digits, answer_text, refusal_line, opening_line, opening_lines, clocks_line};
 
-use std::io;
 use std::io::Write;
+use std::{fmt, io};
+pub use streams::{printed, read_list, unread};
 
 // The digit of a number below 16, in upper case; of any other number that of its remainder by 16.
 #[tactic(auto, unfolding(crate::specs::Digit::digit_of))]
 pub fn digit(n: u8) -> u8
     ensures { result ≡ digit_of n }
 {
-    let d = n % 16;
-    if d < 10 {
-        return d + 48;
+    match n % 16 {
+        d @ 0..10 => b'0' + d,
+        d => b'A' + (d - 10),
     }
-    d + 55
 }
 
 // A byte as two digits.
-#[tactic(auto, unfolding(crate::specs::Lines::two_digits))]
+#[tactic(auto, using(crate::proofs::Digits::two_of_byte))]
 pub fn hex<W: Write>(out: &mut W, byte: u8) -> io::Result<()>
     ensures ok { IfOk result (λ r. r ≡ tt) }
     ensures written { OnOk result (Appends (W.contents out.old) (W.contents out.new) (two_digits byte)) }
 {
-    let two = [digit(byte / 16), digit(byte)];
-    out.write_all(&two)
+    write!(out, "{byte:02X}")
+}
+
+// What the part answers, or that it does not respond.
+#[derive(Clone, Copy)]
+pub struct Answered(pub Option<u8>);
+
+impl fmt::Display for Answered {
+    ghost output = { λ a. Some (answer_text a.0) };
+
+    #[tactic(auto, unfolding(crate::specs::Lines::answer_text), using(crate::proofs::Digits::two_of_byte))]
+    fn fmt<W: fmt::Write>(&self, f: &mut fmt::Formatter<W>) -> fmt::Result {
+        match self.0 {
+            Some(byte) => write!(f, "{byte:02X}"),
+            None => write!(f, "--"),
+        }
+    }
 }
 
 // `R`, a refusal and its place.
@@ -48,18 +65,13 @@ fn opening<W: Write>(out: &mut W, clock: u32) -> io::Result<()>
     writeln!(out, "G {clock}")
 }
 
-// `G` and its clock for each opening, of the used entries of a row.
-pub fn openings<W: Write>(out: &mut W, row: &[u32], used: usize) -> io::Result<()>
+// `G` and its clock for each opening.
+pub fn openings<W: Write>(out: &mut W, clocks: &[u32]) -> io::Result<()>
     ensures ok { IfOk result (λ r. r ≡ tt) }
-    ensures written { OnOk result (Appends (W.contents out.old) (W.contents out.new) (opening_lines (take used row.now))) }
+    ensures written { OnOk result (Appends (W.contents out.old) (W.contents out.new) (opening_lines clocks.now)) }
 {
-    let mut i = 0;
-    while i < row.len() {
-        if used <= i {
-            return Ok(());
-        }
-        opening(out, row[i])?;
-        i += 1;
+    for clock in clocks {
+        opening(out, *clock)?;
     }
     Ok(())
 }

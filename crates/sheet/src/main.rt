@@ -5,216 +5,231 @@
 // with its handshake.
 #![tactic(auto)]
 
+ghost use Rattle.std.specs.Prelude.{◌<◌};
+
 use device::Device;
-use event::Answer;
-use std::io;
+use event::map;
+use port_c::PortC;
 use std::io::{Read, Write};
+use std::{fmt, io};
 
-fn text(out: &mut impl Write, words: &[u8]) -> io::Result<()> {
-    out.write_all(words)
+// What a step does, with what its numbers say.
+#[derive(Clone, Copy)]
+enum Step {
+    Example,
+    // A register and the value written to it.
+    Write(u8, u8),
+    // The register read.
+    Read(u8),
+    // A pin and its level.
+    Pin(u8, bool),
+    Strobe,
+    // The eight outside levels of port A.
+    Levels(u8),
+    // A pin, and how many rises it has, each before a clock.
+    Rises(u8, u8),
+    // How many clocks pass.
+    Clocks(u16),
+    Timer,
+    Port,
 }
 
-fn number(out: &mut impl Write, label: &[u8], n: u64) -> io::Result<()> {
-    text(out, label)?;
-    write!(out, "{n}")
-}
-
-fn hex(out: &mut impl Write, n: u8) -> io::Result<()> {
-    write!(out, "{n:02x}")
-}
-
-fn end_line(out: &mut impl Write) -> io::Result<()> {
-    text(out, b"\n")
-}
-
-fn answer(out: &mut impl Write, a: Answer) -> io::Result<()> {
-    match a {
-        Answer::Vector(v) => hex(out, v),
-        Answer::Silent => text(out, b"--"),
+impl Step {
+    // The step of a letter and two numbers. Any other letter is H.
+    fn new(letter: u8, x: u8, y: u8) -> Step {
+        match letter {
+            b'=' => Step::Example,
+            b'W' => Step::Write(x, y),
+            b'R' => Step::Read(x),
+            b'P' => Step::Pin(x, y == 1),
+            b'S' => Step::Strobe,
+            b'L' => Step::Levels(x),
+            b'U' => Step::Rises(x, y),
+            b'C' => Step::Clocks(u16::from_be_bytes([x, y])),
+            b'T' => Step::Timer,
+            _ => Step::Port,
+        }
     }
 }
 
-// What a read of a register gives; the part is not read.
-fn shown(d: Device, register: u8) -> u8 {
-    let got = d.read(register);
-    got.byte
-}
+// What an acknowledge would answer.
+#[derive(Clone, Copy)]
+struct Acknowledged(Option<u8>);
 
-// What the timer shows: TOUT, ZDS, the counter and what an acknowledge would answer.
-fn show_timer(out: &mut impl Write, d: Device, clocks: u64) -> io::Result<()> {
-    number(out, b"  after ", clocks)?;
-    number(out, b": TOUT ", d.level(19) as u64)?;
-    number(out, b" ZDS ", shown(d, 26) as u64)?;
-    text(out, b" count ")?;
-    hex(out, shown(d, 23))?;
-    hex(out, shown(d, 24))?;
-    hex(out, shown(d, 25))?;
-    text(out, b" acknowledge ")?;
-    answer(out, d.timer_acknowledge())?;
-    end_line(out)
-}
-
-// What port A shows: H2, H1S and its pins.
-fn show_port(out: &mut impl Write, d: Device, clocks: u64) -> io::Result<()> {
-    number(out, b"  after ", clocks)?;
-    number(out, b": H2 ", d.level(25) as u64)?;
-    number(out, b" H1S ", (shown(d, 13) % 2) as u64)?;
-    text(out, b" pins ")?;
-    hex(out, shown(d, 10))?;
-    end_line(out)
-}
-
-// A read, with its byte printed.
-fn read(out: &mut impl Write, d: Device, register: u8) -> io::Result<Device> {
-    let got = d.read(register);
-    number(out, b"  register ", register as u64)?;
-    text(out, b" reads ")?;
-    hex(out, got.byte)?;
-    end_line(out)?;
-    Ok(got.device)
-}
-
-// The eight outside levels of port A.
-fn levels(device: Device, v: u8) -> Device {
-    let mut d = device;
-    for i in 0..8 {
-        d = d.pin(i, bits::bit(v, i));
+impl fmt::Display for Acknowledged {
+    fn fmt<W: fmt::Write>(&self, f: &mut fmt::Formatter<W>) -> fmt::Result {
+        match self.0 {
+            Some(vector) => write!(f, "{vector:02x}"),
+            None => write!(f, "--"),
+        }
     }
-    d
 }
 
-// A rise of a pin.
-fn rise(d: Device, number: u8) -> Device {
-    d.pin(number, false).pin(number, true)
-}
-
-// One clock, with a line where it opens the gate.
-fn clock(out: &mut impl Write, d: Device, at: u64) -> io::Result<Device> {
-    let stepped = d.clock();
-    if stepped.opened {
-        number(out, b"  opens at ", at)?;
-        end_line(out)?;
-    }
-    Ok(stepped.device)
-}
-
-// The clocks after one number, up to another, one at a time.
-fn clocks(out: &mut impl Write, device: Device, before: u64, after: u64) -> io::Result<Device> {
-    let mut d = device;
-    for passed in before..after {
-        d = clock(out, d, passed + 1)?;
-    }
-    Ok(d)
-}
-
-// The same, with a rise of a pin before each.
-fn rises(
-    out: &mut impl Write,
+// A device in an example, and how many clocks it has had there.
+#[derive(Clone, Copy)]
+struct Sheet {
     device: Device,
-    number: u8,
-    before: u64,
-    after: u64,
-) -> io::Result<Device> {
-    let mut d = device;
-    for passed in before..after {
-        d = clock(out, rise(d, number), passed + 1)?;
-    }
-    Ok(d)
+    clocks: u64,
 }
 
-// How many clocks the part has had after a step.
-fn clocks_after(before: u64, what: u8, x: u8, y: u8) -> u64 {
-    match what {
-        b'=' => 0,
-        b'C' => before % 4294967296 + x as u64 * 256 + y as u64,
-        b'U' => before % 4294967296 + y as u64,
-        _ => before,
+impl Sheet {
+    fn fresh() -> Sheet {
+        Sheet {
+            device: Device::fresh(),
+            clocks: 0,
+        }
+    }
+
+    // What a read of a register gives; the part is not read.
+    fn shown(&self, register: u8) -> u8 {
+        self.device.read(register).byte
+    }
+
+    // What the timer shows: TOUT, ZDS, the counter and what an acknowledge would answer.
+    fn show_timer(&self, out: &mut impl Write) -> io::Result<()> {
+        writeln!(
+            out,
+            "  after {}: TOUT {} ZDS {} count {:02x}{:02x}{:02x} acknowledge {}",
+            self.clocks,
+            u8::from(self.device.level(map::PC0 + PortC::TOUT)),
+            self.shown(map::TSR),
+            self.shown(map::CNTRH),
+            self.shown(map::CNTRH + 1),
+            self.shown(map::CNTRL),
+            Acknowledged(self.device.timer_acknowledge()),
+        )
+    }
+
+    // What port A shows: H2, H1S and its pins.
+    fn show_port(&self, out: &mut impl Write) -> io::Result<()> {
+        writeln!(
+            out,
+            "  after {}: H2 {} H1S {} pins {:02x}",
+            self.clocks,
+            u8::from(self.device.level(map::H2)),
+            self.shown(map::PSR) % 2,
+            self.shown(map::PAAR),
+        )
+    }
+
+    // A read, with its byte printed.
+    fn read(&mut self, out: &mut impl Write, register: u8) -> io::Result<()> {
+        let got = self.device.read(register);
+        self.device = got.device;
+        writeln!(out, "  register {register} reads {:02x}", got.byte)
+    }
+
+    // The eight outside levels of port A.
+    fn set_levels(&mut self, levels: u8) {
+        for pin in 0..8 {
+            self.device = self.device.pin(pin, bits::bit(levels, pin));
+        }
+    }
+
+    // A rise of a pin.
+    fn rise(&mut self, pin: u8) {
+        self.device = self.device.pin(pin, false).pin(pin, true);
+    }
+
+    // One clock, with a line where it opens the gate.
+    fn clock(&mut self, out: &mut impl Write) -> io::Result<()> {
+        let stepped = self.device.clock();
+        self.device = stepped.part;
+        self.clocks = self.clocks.saturating_add(1);
+        if stepped.opened {
+            writeln!(out, "  opens at {}", self.clocks)?;
+        }
+        Ok(())
+    }
+
+    // One step. An example has its title from the input.
+    fn play(&mut self, step: Step, input: &mut impl Read, out: &mut impl Write) -> io::Result<()> {
+        match step {
+            Step::Example => {
+                title(input, out)?;
+                *self = Sheet::fresh();
+            }
+            Step::Write(register, value) => self.device = self.device.write(register, value),
+            Step::Read(register) => self.read(out, register)?,
+            Step::Pin(pin, level) => self.device = self.device.pin(pin, level),
+            Step::Strobe => self.rise(map::H1),
+            Step::Levels(levels) => self.set_levels(levels),
+            Step::Rises(pin, count) => {
+                for _ in 0..count {
+                    self.rise(pin);
+                    self.clock(out)?;
+                }
+            }
+            Step::Clocks(count) => {
+                for _ in 0..count {
+                    self.clock(out)?;
+                }
+            }
+            Step::Timer => self.show_timer(out)?,
+            Step::Port => self.show_port(out)?,
+        }
+        Ok(())
     }
 }
 
 // An example's title: the rest of its line.
 fn title(input: &mut impl Read, out: &mut impl Write) -> io::Result<()> {
-    for _ in 0..64u32 {
-        let one = byte(input)?;
-        if one < b' ' {
-            return end_line(out);
+    for _ in 0..64 {
+        match byte(input)? {
+            Some(letter) if letter >= b' ' => out.write_all(&[letter])?,
+            _ => return writeln!(out),
         }
-        let letter = [one];
-        text(out, &letter)?;
     }
     Ok(())
 }
 
-// One step: what it does and two numbers for it. The part has had so many clocks before it and after it.
-fn step(
-    input: &mut impl Read,
-    out: &mut impl Write,
-    d: Device,
-    before: u64,
-    after: u64,
-    what: u8,
-    x: u8,
-    y: u8,
-) -> io::Result<Device> {
-    match what {
-        b'=' => {
-            title(input, out)?;
-            Ok(Device::fresh())
-        }
-        b'W' => Ok(d.write(x, y)),
-        b'R' => read(out, d, x),
-        b'P' => Ok(d.pin(x, y == 1)),
-        b'S' => Ok(rise(d, 24)),
-        b'L' => Ok(levels(d, x)),
-        b'U' => rises(out, d, x, before, after),
-        b'C' => clocks(out, d, before, after),
-        b'T' => {
-            show_timer(out, d, before)?;
-            Ok(d)
-        }
-        _ => {
-            show_port(out, d, before)?;
-            Ok(d)
+// The next byte of standard input, unless it has ended.
+fn byte(input: &mut impl Read) -> io::Result<Option<u8>> {
+    let mut one = [0];
+    let count = input.read(&mut one)?;
+    Ok((count == 1).then_some(one[0]))
+}
+
+// The number below 16 that a digit spells, 0 where there is none: a letter counts on from 9.
+fn value(digit: Option<u8>) -> u8
+    ensures { result < 16 }
+{
+    let code = digit.unwrap_or(0);
+    (code % 16 + code / 64 * 9) % 16
+}
+
+// The number that a blank and two digits spell.
+fn number(input: &mut impl Read) -> io::Result<u8> {
+    byte(input)?;
+    let high = value(byte(input)?);
+    let low = value(byte(input)?);
+    Ok(high * 16 + low)
+}
+
+// The next step, a line: a letter, a blank, two digits, a blank and two digits. There is none where the input ends, or has a 0 for
+// a letter.
+fn next_step(input: &mut impl Read) -> io::Result<Option<Step>> {
+    match byte(input)? {
+        None | Some(0) => Ok(None),
+        Some(letter) => {
+            let x = number(input)?;
+            let y = number(input)?;
+            byte(input)?;
+            Ok(Some(Step::new(letter, x, y)))
         }
     }
 }
 
-// The number below 16 that a digit spells: a letter counts on from 9.
-fn value(digit: u8) -> u8 {
-    digit % 16 + digit / 64 * 9
-}
-
-// The next byte of standard input, 0 after its end.
-fn byte(input: &mut impl Read) -> io::Result<u8> {
-    let mut one = [0u8; 1];
-    input.read(&mut one)?;
-    Ok(one[0])
-}
-
-// The number that a blank and two digits spell.
-fn number_read(input: &mut impl Read) -> io::Result<u8> {
-    byte(input)?;
-    let high = value(byte(input)?) % 16;
-    Ok(high * 16 + value(byte(input)?) % 16)
-}
-
-// The steps, 512 at most, a line each: a letter, a blank, two digits, a blank and two digits.
+// The steps, 512 at most.
 fn main(rt: HostRuntime) -> io::Result<()> {
     let mut input = rt.stdin();
     let mut out = rt.stdout();
-    let mut d = Device::fresh();
-    let mut clocks: u64 = 0;
-    for _ in 0..512u32 {
-        let what = byte(&mut input)?;
-        if what == 0 {
+    let mut sheet = Sheet::fresh();
+    for _ in 0..512 {
+        let Some(step) = next_step(&mut input)? else {
             return Ok(());
-        }
-        let x = number_read(&mut input)?;
-        let y = number_read(&mut input)?;
-        byte(&mut input)?;
-        let after = clocks_after(clocks, what, x, y);
-        d = step(&mut input, &mut out, d, clocks, after, what, x, y)?;
-        clocks = after;
+        };
+        sheet.play(step, &mut input, &mut out)?;
     }
     Ok(())
 }

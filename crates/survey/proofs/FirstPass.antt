@@ -1,19 +1,18 @@
 -- How far a count has come: what is left of the list, followed from here, comes to what the whole list does from the start.
-use Prim.Native.Nat.{ℕ, ◌+◌, ◌*◌, ◌≤◌, ◌<◌}
-use mathlib.Core.Path.{◌≡◌, refl, sym, ap, ◌∙◌, subst}
+use Prim.Native.Nat.{ℕ, ◌+◌, ◌*◌, ◌≤◌}
+use mathlib.Core.Path.{◌≡◌, refl, sym, ap, ◌∙◌}
 use mathlib.Core.List.{List}
 use native.Mathlib.Omega.{arith}
-use lib.ListN.{length}
+use Rattle.std.specs.Prelude.{true, false, Result, Ok, Err, is_ok}
 use Rattle.event.specs.declared.Event.{Event}
 use Rattle.gate.specs.declared.Gate.{Gate}
 use Rattle.wire.specs.Field.{bits_in}
-use Rattle.wire.specs.Next.{next_at, most_bits, most_clocks, most_bytes, too_long}
-use Rattle.wire.specs.List.{follow, rest, parsed}
+use Rattle.wire.specs.Next.{Play, next_at, most_bits, most_clocks}
+use Rattle.wire.specs.Events.{ending}
+use Rattle.wire.specs.List.{rest, parsed}
 use Rattle.wire.specs.Rest.{rest_reads}
 use Rattle.wire.specs.Finds.{moves}
-use Rattle.wire.specs.Word.{NoEvent}
-use Rattle.wire.specs.declared.next.Next.{Next}
-use Rattle.wire.specs.declared.next.Next.TheVariants.{Play, End, Refused}
+use Rattle.wire.specs.declared.refusal.Refused.{Refused}
 use Rattle.device.specs.Following.{followed}
 use Rattle.survey.specs.Following.{opens_at, opens_few, going_on, event_first, at_end_lem}
 
@@ -26,39 +25,29 @@ pub record Counted (s : List ℕ) (g₀ g : Gate) (n at : ℕ) : Type 0 where
 pub start : (s : List ℕ) (g : Gate) → Counted s g g 0 0
 start s g = record { same = refl; within = omega arith; few = omega arith; most = omega arith }
 
+-- one event more
+pub further : (s : List ℕ) (g₀ g : Gate) (n at : ℕ) → Counted s g₀ g n at → (e : Event) (p : ℕ) → next_at s at ≡ Play e p
+    → (h : Gate) (m : ℕ) → h ≡ followed g e → m ≡ n + opens_at g e → Counted s g₀ h m p
+further s g₀ g n at counted e p read h m left more =
+    let go = moves s at e p read in
+    let f = opens_few g e in
+    record {
+      same =
+          (λ i. going_on (left i) (more i) (rest s p))
+          ∙ event_first g n e (rest s p)
+          ∙ sym (ap (going_on g n) (rest_reads s at (Play e p) read))
+          ∙ counted.same;
+      within = go.within;
+      few = omega (arith, go.within, go.short);
+      most = omega (arith, go.pace, counted.most, more);
+    }
+
+-- no event more: the list ends, or is refused
 module _ (s : List ℕ) (g₀ g : Gate) (n at : ℕ) (counted : Counted s g₀ g n at) where
-  -- one event more
-  pub further : (e : Event) (p : ℕ) → next_at s at ≡ Play e p → (h : Gate) (m : ℕ) → h ≡ followed g e → m ≡ n + opens_at g e → Counted s g₀ h m p
-  further e p read h m left more =
-      let go = moves s at e p read in
-      let f = opens_few g e in
-      record {
-        same =
-            (λ i. going_on (left i) (more i) (rest s p))
-            ∙ event_first g n e (rest s p)
-            ∙ sym (ap (going_on g n) (rest_reads s at (Play e p) read))
-            ∙ counted.same;
-        within = go.within;
-        few = omega (arith, go.within, go.short);
-        most = omega (arith, go.pace, counted.most, more);
-      }
+  pub whole : (r : Result (Unit {0}) Refused) → rest s at ≡ ending r → is_ok r ≡ true → n ≡ going_on g₀ 0 (parsed s)
+  whole (Ok u) end ok = at_end_lem g n ∙ ap (going_on g n) (sym end) ∙ counted.same
+  whole (Err x) end ok = cc
 
-  last : (x : Next) → next_at s at ≡ x → going_on g n (follow (rest s) x) ≡ going_on g₀ 0 (parsed s)
-  last x here = sym (ap (going_on g n) (rest_reads s at x here)) ∙ counted.same
-
-  -- no event stands here, and no refusal: the list ends
-  ends : (x : Next) → next_at s at ≡ x → NoEvent x → ((r p : ℕ) → x ≡ Refused r p → ⊥) → n ≡ going_on g₀ 0 (parsed s)
-  ends (Play e p) here none t = absurd none
-  ends End here none t = at_end_lem g n ∙ last End here
-  ends (Refused r p) here none t = absurd (t r p refl)
-
-  pub ended : (x : Next) → x ≡ next_at s at → NoEvent (next_at s at) → ((r p : ℕ) → x ≡ Refused r p → ⊥) → n ≡ going_on g₀ 0 (parsed s)
-  ended x here none t = ends x (sym here) (subst NoEvent (sym here) none) t
-
-  -- a refusal stands here
-  pub refused : (r p : ℕ) → next_at s at ≡ Refused r p → 0 ≡ going_on g₀ 0 (parsed s)
-  refused r p here = last (Refused r p) here
-
--- more bytes than a list may have
-pub too_many : (s : List ℕ) (g : Gate) → most_bytes < length s → 0 ≡ going_on g 0 (parsed s)
-too_many s g long = refused s g g 0 0 (start s g) 1 0 (too_long s 0 long)
+  pub refusing : (r : Result (Unit {0}) Refused) → rest s at ≡ ending r → is_ok r ≡ false → 0 ≡ going_on g₀ 0 (parsed s)
+  refusing (Ok u) end ok = cc
+  refusing (Err x) end ok = ap (going_on g n) (sym end) ∙ counted.same

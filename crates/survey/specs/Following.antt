@@ -20,7 +20,7 @@ same_many : (level : Bool) (n k j : ℕ) (t : Timer) → length (timer_openings 
 unfolding timer_openings
 same_many level zero k j t = refl
 same_many level (suc n) k j t =
-    marked (clocked_timer level t).opened _ _ (same_many level n (suc k) (suc j) (clocked_timer level t).timer)
+    marked (clocked_timer level t).opened _ _ (same_many level n (suc k) (suc j) (clocked_timer level t).part)
   where
     marked : (b : Bool) (l m : List ℕ) → length l ≡ length m → length (mark b (suc k) l) ≡ length (mark b (suc j) m)
     marked true l m e = ap suc e

@@ -1,8 +1,6 @@
 -- What playing events needs, known without playing them (01, 'The event list').
-use Rattle.std.specs.Prelude.{ℕ, ◌+◌, ◌≤◌, ◌≡◌, refl, List, [], ◌∷◌, length}
+use Rattle.std.specs.Prelude.{ℕ, ◌+◌, ◌≤◌, ◌≡◌, refl, List, [], ◌∷◌, length, Option, Some, None}
 use Rattle.std.proofs.Common.{sym, ap, ◌∙◌, add-zero, add_assoc, arith, length-append}
-use Rattle.event.specs.declared.Answer.{Answer}
-use Rattle.event.specs.declared.Answer.TheVariants.{Vector, Silent}
 use Rattle.event.specs.declared.Event.{Event}
 use Rattle.event.specs.declared.Event.TheVariants.{Write, Read, PortAcknowledge, TimerAcknowledge, Pin, Clocks, Reset}
 use Rattle.wire.specs.Needs.{answers_in, clocks_in, needs_of}
@@ -12,9 +10,9 @@ use Rattle.device.specs.Interrupts.{port_acknowledge, timer_acknowledge}
 use Rattle.device.specs.declared.Device.{Device}
 
 -- an acknowledge answers two bytes
-pub two_bytes : (a : Answer) → length (answer_bytes a) ≡ 2
-two_bytes (Vector v) = refl
-two_bytes Silent = refl
+pub two_bytes : (a : Option ℕ) → length (answer_bytes a) ≡ 2
+two_bytes (Some v) = refl
+two_bytes None = refl
 
 -- each read and each acknowledge appends two answer bytes
 pub event_answers : (d : Device) (k : ℕ) (e : Event) → length (effect d k e).answers ≡ answers_in e

@@ -6,43 +6,21 @@ ghost use Rattle.survey.specs.Survey.{opened_by};
 use crate::watching::watch_clocks;
 use device::Device;
 use event::Event;
-use wire::Next;
+use wire::Events;
 
-// Follows the gate of the device from a list's first bit to its end. A refused list plays nothing, and opens nothing.
+// Follows the gate of the device from a list's first bit to its end. A refused list plays nothing, and opens nothing. Each arm ends in
+// `continue`: where arms join behind the match, the pass takes up to a third more instructions.
 #[tactic(auto, unfolding(crate::specs::Watching::watched_clocks))]
 pub fn count_openings(list: &[u8], device: Device) -> usize
     ensures { result ≡ opened_by device (parsed list.now) }
 {
-    if wire::MOST_BYTES < list.len() {
-        return 0;
-    }
     let mut gate = device.gate;
     let mut opened: usize = 0;
-    let mut at: usize = 0;
-    loop {
-        let word = wire::word_at(list, at);
-        let kind = word >> wire::AFTER_KIND;
-        if wire::END <= kind {
-            let next = wire::next_event(list, at);
-            let Next::Refused(_, _) = next else {
-                return opened;
-            };
-            return 0;
-        }
-        let event = wire::event_of(word);
-        at += wire::size_of(kind);
+    let mut events = Events::of(list);
+    while let Some(event) = events.next() {
         match event {
             Event::Write(register, value) => {
                 gate = gate.write(register, value);
-                continue;
-            }
-            Event::Read(_) => {
-                continue;
-            }
-            Event::PortAcknowledge => {
-                continue;
-            }
-            Event::TimerAcknowledge => {
                 continue;
             }
             Event::Pin(pin, level) => {
@@ -60,15 +38,16 @@ pub fn count_openings(list: &[u8], device: Device) -> usize
                     continue;
                 }
                 let watched = watch_clocks(gate, n);
-                let after = watched.gate;
-                gate = after;
-                opened += watched.opened;
+                gate = watched.part;
+                opened += watched.used;
                 continue;
             }
             Event::Reset => {
                 gate = gate.reset();
                 continue;
             }
+            Event::Read(_) | Event::PortAcknowledge | Event::TimerAcknowledge => {}
         }
     }
+    if events.end().is_ok() { opened } else { 0 }
 }

@@ -5,5 +5,5 @@ mod checking;
 mod counting;
 mod watching;
 
-pub use checking::{Checked, check};
+pub use checking::check;
 pub use counting::count_openings;

@@ -1,8 +1,9 @@
--- Three bytes of a list are a field of 24 bits, four one of 32, and a field that lies within them is a shift and a remainder of it.
-use Rattle.std.proofs.Common.{◌≡◌, ℕ, zero, suc, ◌+◌, ◌-◌, ◌*◌, ◌/◌, ◌%◌, ◌^◌, ◌<◌, ◌≤◌, List, get_or, sym, ap, ◌∙◌, ap₂, add-zero, div-add-mod', arith, shr-shr}
+-- Four bytes of a list are a field of 32 bits, and a field that lies within them is a shift and a remainder of it.
+use Rattle.std.proofs.Common.{◌≡◌, ℕ, zero, suc, ◌+◌, ◌-◌, ◌*◌, ◌/◌, ◌%◌, ◌^◌, ◌<◌, ◌≤◌, List, [], ◌∷◌, get_or, sym, ap, ◌∙◌, ap₂, add-zero, div-add-mod', arith, shr-shr}
 use native.Mathlib.Nat.{div-eq_of_lt, mul-mod_left}
 use lib.Bits.{bit_and, and_mask}
 use lib.Pow as pow
+use Rattle.std.specs.Int.{w32, from_be_bytes}
 use Rattle.wire.specs.Field.{field_at}
 use Rattle.wire.specs.Splitting.{split, last_bits, inner_bits}
 use Rattle.wire.specs.Word.{bits_from}
@@ -29,15 +30,14 @@ module _ (s : List ℕ) where
     byte : (i at : ℕ) → at ≡ i * 8 → field_at s at 8 ≡ get_or s i 0
     byte i at e = ap (λ (p : ℕ). field_at s p 8) e ∙ first_of_byte i 8 (omega arith) ∙ omega arith
 
-    pub three_bytes : (i : ℕ) → (get_or s i 0 * 2 ^ 8 + get_or s (i + 1) 0) * 2 ^ 8 + get_or s (i + 2) 0 ≡ field_at s (i * 8) 24
-    three_bytes i =
+    pub four_bytes : (i : ℕ)
+        → from_be_bytes w32 (get_or s i 0 ∷ get_or s (i + 1) 0 ∷ get_or s (i + 2) 0 ∷ get_or s (i + 3) 0 ∷ []) ≡ field_at s (i * 8) 32
+    four_bytes i =
         let b0 = byte i (i * 8) (omega arith) in
         let b1 = byte (i + 1) (i * 8 + 8) (omega arith) in
         let b2 = byte (i + 2) (i * 8 + 16) (omega arith) in
-        omega (arith, split s (i * 8) 16 8, split s (i * 8) 8 8)
-
-    pub four_bytes : (i : ℕ) → ((get_or s i 0 * 2 ^ 8 + get_or s (i + 1) 0) * 2 ^ 8 + get_or s (i + 2) 0) * 2 ^ 8 + get_or s (i + 3) 0 ≡ field_at s (i * 8) 32
-    four_bytes i = let b3 = byte (i + 3) (i * 8 + 24) (omega arith) in omega (arith, split s (i * 8) 24 8, three_bytes i)
+        let b3 = byte (i + 3) (i * 8 + 24) (omega arith) in
+        omega (arith, split s (i * 8) 24 8, split s (i * 8) 16 8, split s (i * 8) 8 8)
 
 -- what a shift within 32 bits keeps of a number
 shifted : (x k : ℕ) → k ≤ 32 → x * 2 ^ k % 2 ^ 32 ≡ x % 2 ^ (32 - k) * 2 ^ k

@@ -13,8 +13,8 @@ use Rattle.wire.specs.Needs.{clocks_in}
 use Rattle.wire.specs.WellFormed.{IsWellFormed, three_bits, few_clocks, paced}
 use Rattle.event.specs.declared.Event.{Event}
 use Rattle.event.specs.declared.Event.TheVariants.{Write, Read, PortAcknowledge, TimerAcknowledge, Pin, Clocks, Reset}
-use Rattle.wire.specs.declared.next.Next.{Next}
-use Rattle.wire.specs.declared.next.Next.TheVariants.{Play, End, Refused}
+use Rattle.wire.specs.Next.{Next}
+use Rattle.wire.specs.Next.{Play, End, Refused}
 
 -- 01's table of kinds: the bits from bit at on spell event e, its kind first and then its fields, most significant bit first.
 -- Kind 7, the end, is EndMark below

@@ -1,6 +1,7 @@
 pub mod Field
 pub mod Splitting
 pub mod Next
+pub mod Told
 pub mod Head
 pub mod Word
 pub mod List
@@ -8,6 +9,7 @@ pub mod Needs
 pub mod WellFormed
 pub mod Finds
 pub mod Rest
+pub mod Events
 pub mod Spells
 pub mod Refusals
 pub mod Totals

@@ -4,8 +4,8 @@ use Rattle.std.specs.Prelude.{ℕ, zero, suc, ◌-◌, List, [], ◌∷◌}
 use Rattle.wire.specs.Field.{bits_in}
 use Rattle.wire.specs.Next.{next_at}
 use Rattle.event.specs.declared.Event.{Event}
-use Rattle.wire.specs.declared.next.Next.{Next}
-use Rattle.wire.specs.declared.next.Next.TheVariants.{Play, End, Refused}
+use Rattle.wire.specs.Next.{Next}
+use Rattle.wire.specs.Next.{Play, End, Refused}
 
 pub data Parsed : Type 0 where
   events : List Event → Parsed

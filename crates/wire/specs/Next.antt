@@ -6,8 +6,14 @@ use Rattle.wire.specs.Field.{bits_in, field_at}
 use Rattle.event.specs.Map.{H4}
 use Rattle.event.specs.declared.Event.{Event}
 use Rattle.event.specs.declared.Event.TheVariants.{Write, Read, PortAcknowledge, TimerAcknowledge, Pin, Clocks, Reset}
-use Rattle.wire.specs.declared.next.Next.{Next}
-use Rattle.wire.specs.declared.next.Next.TheVariants.{Play, End, Refused}
+
+pub data Next : Type 0 where
+  -- an event, and the first bit after it
+  Play : Event → ℕ → Next
+  -- the end, with its fill and nothing after
+  End : Next
+  -- a refusal's number and its place
+  Refused : ℕ → ℕ → Next
 
 -- 'A list has at most 16,384 bytes'
 abbrev pub most_bytes : ℕ

@@ -6,8 +6,8 @@ use Rattle.wire.specs.List.{Parsed, events, refused, prepend, follow, rest, pars
 use Rattle.wire.specs.Finds.{CutShort, NoPin, FillSet, ByteFollows, Closes, Row, Finds, finds, row_refuses, closes_ends}
 use Rattle.wire.specs.Rest.{rest_reads, each_rest}
 use Rattle.event.specs.declared.Event.{Event}
-use Rattle.wire.specs.declared.next.Next.{Next}
-use Rattle.wire.specs.declared.next.Next.TheVariants.{Play, End, Refused}
+use Rattle.wire.specs.Next.{Next}
+use Rattle.wire.specs.Next.{Play, End, Refused}
 
 -- the reader comes to bit 0, and to the first bit after an event read at a bit that it comes to
 pub data Reaches (s : List ℕ) : ℕ → Type 0 where

@@ -6,8 +6,8 @@ use Rattle.wire.specs.Next.{next_at}
 use Rattle.wire.specs.List.{Parsed, events, refused, prepend, follow, parse, rest}
 use Rattle.wire.specs.Finds.{moves}
 use Rattle.event.specs.declared.Event.{Event}
-use Rattle.wire.specs.declared.next.Next.{Next}
-use Rattle.wire.specs.declared.next.Next.TheVariants.{Play, End, Refused}
+use Rattle.wire.specs.Next.{Next}
+use Rattle.wire.specs.Next.{Play, End, Refused}
 
 module _ (s : List ℕ) where
   -- two ways to go on that agree after the event at a bit agree there

@@ -8,7 +8,7 @@ use Rattle.wire.specs.List.{Parsed, events, refused, prepend, rest, parsed}
 use Rattle.wire.specs.Finds.{Spelled, Closes, Finds, finds, moves, spelled_plays, closes_ends}
 use Rattle.wire.specs.Rest.{rest_reads, each_rest}
 use Rattle.event.specs.declared.Event.{Event}
-use Rattle.wire.specs.declared.next.Next.TheVariants.{Play, End}
+use Rattle.wire.specs.Next.{Play, End}
 
 -- from bit at on stand these events, each where the one before it ends, and then the end mark with its fill
 unfoldable pub Spells : List ℕ → ℕ → List Event → Type 0

@@ -12,8 +12,8 @@ use Rattle.wire.specs.Head.{head_at, head_register, head_value, head_level}
 use Rattle.wire.specs.Next.{most_bytes, last_pin, kind_bits, clocks_bits, kind_at, pin_at, size_of, bytes_to, fill_at, close_at, pin_or_refusal, event_at, next_at, cut_short, all_there}
 use Rattle.event.specs.declared.Event.{Event}
 use Rattle.event.specs.declared.Event.TheVariants.{Write, Read, PortAcknowledge, TimerAcknowledge, Pin, Clocks, Reset}
-use Rattle.wire.specs.declared.next.Next.{Next}
-use Rattle.wire.specs.declared.next.Next.TheVariants.{Play, End, Refused}
+use Rattle.wire.specs.Next.{Next}
+use Rattle.wire.specs.Next.{Play, End, Refused}
 
 -- the word that says that no event stands there: the end's kind, and zeros
 abbrev pub no_word : ℕ
@@ -67,6 +67,20 @@ event_in w =
     ∷ [])
     (kind_in w) Reset
 
+-- pin 28 to 31
+abbrev pub no_pin : Event → Bool
+no_pin (Write r v) = false
+no_pin (Read r) = false
+no_pin PortAcknowledge = false
+no_pin TimerAcknowledge = false
+no_pin (Pin n level) = nat_lt last_pin n
+no_pin (Clocks n) = false
+no_pin Reset = false
+
+-- an event that is all there, unless it is of pin 28 to 31; after is the first bit after it
+abbrev pub unless_no_pin : ℕ → Event → ℕ → Next
+unless_no_pin at e after = if no_pin e then Refused 3 at else Play e after
+
 -- the end or a refusal
 abbrev pub NoEvent : Next → Type 0
 NoEvent (Play e p) = ⊥
@@ -83,11 +97,11 @@ pub plays : (s : List ℕ) (at w : ℕ) → Tells s at w → kind_in w < 7 → (
 plays s at w t l e size p q = t.event l ∙ (λ i. Play (sym p i) (at + sym q i))
 
 -- every kind needs its own bits, and none needs more than clocks
-record Sized (k : ℕ) : Type 0 where
-  least : kind_bits ≤ size_of k
-  most : size_of k ≤ kind_bits + clocks_bits
+pub record Sized (k : ℕ) : Type 0 where
+  pub least : kind_bits ≤ size_of k
+  pub most : size_of k ≤ kind_bits + clocks_bits
 
-sized : (k : ℕ) → Sized k
+pub sized : (k : ℕ) → Sized k
 unfolding size_of
 sized zero = record { least = omega arith; most = omega arith }
 sized (suc zero) = record { least = omega arith; most = omega arith }
@@ -155,9 +169,9 @@ module _ (s : List ℕ) (at : ℕ) where
   pin_there f p = false≢true (sym f ∙ both (kind_at s at == 4) (nat_lt last_pin (pin_at s at)) (eq-eqb (kind_at s at) 4 p.0) (lt-ltb last_pin (pin_at s at) p.1))
 
   -- pins 28 to 31 are those whose first three bits are set
-  pub no_pin : bits_of s at / 2 ^ 26 ≡ 39 → no_word ≡ word_of s at
+  pub pin_bits_set : bits_of s at / 2 ^ 26 ≡ 39 → no_word ≡ word_of s at
   unfolding word_of bits_of
-  no_pin =
+  pin_bits_set =
       both_arms (λ (w r : ℕ). w / 2 ^ 26 ≡ 39 → no_word ≡ r) (cut_at s at) no_word no_word (bits_from s at) _
       (λ _. refl)
       (λ top.
@@ -188,6 +202,29 @@ module _ (s : List ℕ) (at : ℕ) where
   by_kind after (suc (suc (suc (suc (suc (suc zero)))))) k l pin = simp (k, kind_is ∙ k)
   by_kind after (suc (suc (suc (suc (suc (suc (suc k))))))) e l pin = absurd (omega arith)
 
+  -- what stands there, all of it there, is the event of these bits unless its pin is none, or is no event; after is the first bit after it
+  of_kind : (after k : ℕ) → kind_at s at ≡ k → k ≢ 7 → event_at s at after (kind_at s at) ≡ unless_no_pin at (event_in (bits_from s at)) after
+  unfolding event_at event_in pin_or_refusal
+  of_kind after zero k end = simp (k, kind_is ∙ k, head_register s at head_is, head_value s at head_is)
+  of_kind after (suc zero) k end = simp (k, kind_is ∙ k, head_register s at head_is)
+  of_kind after (suc (suc zero)) k end = simp (k, kind_is ∙ k)
+  of_kind after (suc (suc (suc zero))) k end = simp (k, kind_is ∙ k)
+  of_kind after (suc (suc (suc (suc zero)))) k end = simp (k, kind_is ∙ k, pin_is, head_level s at head_is)
+  of_kind after (suc (suc (suc (suc (suc zero))))) k end = simp (k, kind_is ∙ k, clocks_is)
+  of_kind after (suc (suc (suc (suc (suc (suc zero)))))) k end = simp (k, kind_is ∙ k)
+  of_kind after (suc (suc (suc (suc (suc (suc (suc zero))))))) k end = absurd (end refl)
+  of_kind after (suc (suc (suc (suc (suc (suc (suc (suc k)))))))) e end = absurd (omega (arith, e, field_lt s at kind_bits))
+
+  -- of a list that is not too long the bits tell the event that stands there, unless its pin is one of these
+  pub bits_tell : length s ≤ most_bytes → kind_in (bits_of s at) ≢ 7 → next_at s at ≡ unless_no_pin at (event_in (bits_of s at)) (at + size_of (kind_in (bits_of s at)))
+  unfolding bits_of
+  bits_tell short = branch (λ (w : ℕ). kind_in w ≢ 7 → next_at s at ≡ unless_no_pin at (event_in w) (at + size_of (kind_in w))) (cut_at s at) no_word (bits_from s at)
+      (λ c none. absurd (none refl))
+      (λ f none.
+      all_there s at short (ltb-false (bits_in s) (at + size_of (kind_at s at)) f)
+      ∙ of_kind (at + size_of (kind_at s at)) (kind_at s at) refl (λ k. none (kind_is ∙ k))
+      ∙ ap (λ (k : ℕ). unless_no_pin at (event_in (bits_from s at)) (at + size_of k)) (sym kind_is))
+
   closing : (after : ℕ) → kind_at s at ≡ 7 → NoEvent (event_at s at after (kind_at s at))
   unfolding event_at close_at
   closing after k =
@@ -195,6 +232,20 @@ module _ (s : List ℕ) (at : ℕ) where
       (branch NoEvent (nat_lt 0 (fill_at s after)) _ _
       (λ _. tt)
       (λ _. branch NoEvent (nat_lt (bytes_to after) (length s)) _ _ (λ _. tt) (λ _. tt)))
+
+  pub told_there : kind_in (bits_of s at) ≢ 7 → at + size_of (kind_in (bits_of s at)) ≤ bits_in s
+  unfolding bits_of
+  told_there =
+      branch (λ (w : ℕ). kind_in w ≢ 7 → at + size_of (kind_in w) ≤ bits_in s) (cut_at s at) no_word (bits_from s at)
+      (λ c none. absurd (none refl))
+      (λ f none. let n = ap size_of kind_is in let there = ltb-false (bits_in s) (at + size_of (kind_at s at)) f in omega (arith, n, there))
+
+  -- where they tell no event, all that the kind needs being there, the end mark stands
+  pub end_told : kind_in (bits_of s at) ≡ 7 → at + size_of (kind_at s at) ≤ bits_in s → length s ≤ most_bytes → next_at s at ≡ close_at s (at + kind_bits)
+  unfolding event_at size_of
+  end_told none there short =
+      let end : kind_at s at ≡ 7 = sym kind_is ∙ ap kind_in (whole there) ∙ none in
+      all_there s at short there ∙ ap (λ (k : ℕ). event_at s at (at + size_of k) k) end
 
   no_such_pin : (after : ℕ) → NoPin → event_at s at after (kind_at s at) ≡ Refused 3 at
   unfolding event_at pin_or_refusal

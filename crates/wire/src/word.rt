@@ -1,12 +1,12 @@
 // An event as one number, its word: what the loops over a list go by, so that no event is stored to be taken apart again.
-ghost use Rattle.std.specs.Prelude.{◌≡◌, ◌+◌, ◌*◌, ◌/◌, ◌^◌, ◌≤◌, length};
+ghost use Rattle.std.specs.Prelude.{◌≡◌, ◌+◌, ◌/◌, ◌%◌, ◌^◌, ◌≤◌, ◌==◌, length};
 ghost use Rattle.wire.specs.Next.{most_bytes};
 ghost use Rattle.wire.specs.Word.{event_in, word_of, bits_of, Tells};
 
-use crate::field::byte_at;
+use crate::field::four_bytes;
 use crate::next::{
-    CLOCKS, CLOCKS_BITS, HEAD_BITS, KIND_BITS, LAST_PIN, PIN, PIN_BITS, PORT_ACKNOWLEDGE, READ,
-    TIMER_ACKNOWLEDGE, WRITE, level_of, register_or_pin, size_of, value_of,
+    CLOCKS, CLOCKS_BITS, KIND_BITS, LAST_PIN, LEVEL_BITS, PIN, PIN_BITS, PORT_ACKNOWLEDGE, READ,
+    REGISTER_BITS, TIMER_ACKNOWLEDGE, VALUE_BITS, WRITE, size_of,
 };
 use event::Event;
 use std::num::wrapping_sub_usize;
@@ -17,12 +17,27 @@ pub const END: u32 = 7;
 // A word's bits, those of the event on top.
 const WORD_BITS: usize = 32;
 
+// The head of an event, its first bits: the kind, the register or the pin, the value or the level. Clocks alone reach further.
+const HEAD_BITS: usize = 16;
+
 // How many bits of the word follow the kind, the head and the clocks.
 pub const AFTER_KIND: u32 = (WORD_BITS - KIND_BITS) as u32;
 
 const AFTER_HEAD: u32 = (WORD_BITS - HEAD_BITS) as u32;
 
 const AFTER_CLOCKS: u32 = AFTER_KIND - CLOCKS_BITS as u32;
+
+// How many bits of the head follow the register or the pin, and the level.
+const AFTER_REGISTER: u32 = VALUE_BITS as u32;
+
+const AFTER_LEVEL: u32 = (HEAD_BITS - KIND_BITS - PIN_BITS - LEVEL_BITS) as u32;
+
+// A field's bits, all set.
+const REGISTER_MASK: u32 = (1 << REGISTER_BITS) - 1;
+
+const VALUE_MASK: u32 = (1 << VALUE_BITS) - 1;
+
+const LEVEL_MASK: u32 = (1 << LEVEL_BITS) - 1;
 
 const CLOCKS_MASK: u32 = (1 << CLOCKS_BITS) - 1;
 
@@ -36,13 +51,6 @@ const NO_PIN: u32 = ((PIN << PIN_BITS) + LAST_PIN as u32 + 1) >> LAST_PIN_BITS;
 // The word that says that no event stands there.
 const NONE: u32 = END << AFTER_KIND;
 
-// Four bytes as one number, the first on top.
-fn four(first: u8, second: u8, third: u8, fourth: u8) -> u32
-    ensures { result ≡ ((first * 2 ^ 8 + second) * 2 ^ 8 + third) * 2 ^ 8 + fourth }
-{
-    ((first as u32) << 24) | ((second as u32) << 16) | ((third as u32) << 8) | (fourth as u32)
-}
-
 // The bits from bit at, near the end of a list, with zeros behind it. Its bits' number may wrap, but not how many remain: they are 24 at most.
 fn last_bits(list: &[u8], at: usize) -> u32
     requires { length list.now ≤ at / 2 ^ 3 + 3 }
@@ -52,8 +60,7 @@ fn last_bits(list: &[u8], at: usize) -> u32
     if list.len() <= i {
         return NONE;
     }
-    let bytes = four(list[i], byte_at(list, i + 1), byte_at(list, i + 2), 0);
-    let word = bytes << (at & 7);
+    let word = four_bytes(list, i) << (at & 7);
     if wrapping_sub_usize(list.len() << 3, at) < size_of(word >> AFTER_KIND) {
         return NONE;
     }
@@ -61,12 +68,12 @@ fn last_bits(list: &[u8], at: usize) -> u32
 }
 
 // The bits from bit at. Where the four bytes from its first are there, so are all the bits that an event needs.
-fn bits_at(list: &[u8], at: usize) -> u32
+pub(crate) fn bits_at(list: &[u8], at: usize) -> u32
     ensures { result ≡ bits_of list.now at }
 {
     let i = at >> 3;
     if i + 3 < list.len() {
-        let bytes = four(list[i], list[i + 1], list[i + 2], list[i + 3]);
+        let bytes = u32::from_be_bytes([list[i], list[i + 1], list[i + 2], list[i + 3]]);
         return bytes << (at & 7);
     }
     last_bits(list, at)
@@ -82,6 +89,27 @@ pub fn word_at(list: &[u8], at: usize) -> u32
         return NONE;
     }
     word
+}
+
+// The register of a write or a read, or the pin of a pin event.
+fn register_or_pin(head: u32) -> u8
+    ensures { result ≡ head / 2 ^ 8 % 2 ^ 5 }
+{
+    ((head >> AFTER_REGISTER) & REGISTER_MASK) as u8
+}
+
+// The value of a write.
+fn value_of(head: u32) -> u8
+    ensures { result ≡ head % 2 ^ 8 }
+{
+    (head & VALUE_MASK) as u8
+}
+
+// The level of a pin.
+fn level_of(head: u32) -> bool
+    ensures { result ≡ (head / 2 ^ 7 % 2 == 1) }
+{
+    (head >> AFTER_LEVEL) & LEVEL_MASK == 1
 }
 
 // The event of a word.

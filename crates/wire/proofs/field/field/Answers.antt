@@ -1,7 +1,8 @@
--- `field` meets its contract: the shift and the mask take the field out of the window.
+-- `field` meets its contract: the shift and the mask take the field out of three bytes.
 use Rattle.std.proofs.Common.{◌≡◌, ℕ, ◌-◌, ◌*◌, ◌/◌, ◌%◌, ◌^◌, ◌<◌, ◌≤◌, List, sym, ap, ◌∙◌, subst, ap₂, one-mul, arith, shl_exact}
 use lib.Bits.{bit_and, and_mask}
 use Rattle.wire.specs.Field.{field_at, field_lt}
+use Rattle.wire.specs.Splitting.{first_bits}
 use Rattle.wire.proofs.Window.{field_window}
 use Rattle.wire.proofs.field.field.Goals as goal
 
@@ -21,5 +22,7 @@ masked s at w bytes h e =
 pub returns : goal.returns
 returns c =
     let a = c.args in
-    let e = masked a.list.now a.at a.width c.window-bytes.result c.requires c.window-bytes.ensures in
-    (e, subst (λ (x : ℕ). x < 2 ^ a.width) (sym e) (field_lt a.list.now a.at a.width))
+    let s = a.list.now in
+    let three = ap (λ (x : ℕ). x / 2 ^ 8) c.four_bytes-three.ensures ∙ first_bits s (a.at / 8 * 8) 24 8 in
+    let e = masked s a.at a.width _ c.requires three in
+    (e, subst (λ (x : ℕ). x < 2 ^ a.width) (sym e) (field_lt s a.at a.width))

@@ -7,5 +7,5 @@ use Rattle.wire.proofs.word.bits_at.Goals as goal
 pub returns-then-i-list : goal.returns-then-i-list
 returns-then-i-list c =
     let s = c.args.list.now in
-    let e = c.four-bytes.ensures ∙ four_bytes s (λ n. omega (arith, c.type_inv.list n)) (c.args.at / 8) in
-    word_window s c.args.at c.four-bytes.result e ∙ four_there s c.args.at c.if-i-list.true
+    let e = c.from_be_bytes-bytes.ensures ∙ four_bytes s (λ n. omega (arith, c.type_inv.list n)) (c.args.at / 8) in
+    word_window s c.args.at c.from_be_bytes-bytes.result e ∙ four_there s c.args.at c.if-i-list.true

@@ -1,7 +1,7 @@
 -- `word_at` meets its contract.
 use Rattle.std.proofs.Common.{◌≡◌, ℕ, ◌/◌, ◌^◌, ◌≤◌, List, length, sym, ◌∙◌, subst}
 use Rattle.wire.specs.Next.{most_bytes}
-use Rattle.wire.specs.Word.{word_of, Tells, no_pin, other, word_of_tells}
+use Rattle.wire.specs.Word.{word_of, Tells, pin_bits_set, other, word_of_tells}
 use Rattle.wire.proofs.word.word_at.Goals as goal
 
 -- the word at a bit tells what stands there
@@ -9,7 +9,7 @@ told : (s : List ℕ) (at r : ℕ) → r ≡ word_of s at → length s ≤ most_
 told s at r e short = subst (Tells s at) (sym e) (word_of_tells s at short)
 
 pub returns-then-word-eq-NO_PIN-clause-word : goal.returns-then-word-eq-NO_PIN-clause-word
-returns-then-word-eq-NO_PIN-clause-word c = no_pin _ _ (subst (λ (w : ℕ). w / 2 ^ 26 ≡ 39) c.bits_at-word.ensures c.if-word-eq-NO_PIN.true)
+returns-then-word-eq-NO_PIN-clause-word c = pin_bits_set _ _ (subst (λ (w : ℕ). w / 2 ^ 26 ≡ 39) c.bits_at-word.ensures c.if-word-eq-NO_PIN.true)
 
 pub returns-then-word-eq-NO_PIN-clause-tells : goal.returns-then-word-eq-NO_PIN-clause-tells
 returns-then-word-eq-NO_PIN-clause-tells c = told _ _ _ (returns-then-word-eq-NO_PIN-clause-word c)

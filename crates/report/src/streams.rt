@@ -1,0 +1,53 @@
+// What the programs do with the system's streams: a list is read from standard input, and a line says why it can't be.
+ghost use Rattle.std.specs.Prelude.{◌≡◌, ◌≤◌, IfOk, IfSome, OnOk, take, vec_len};
+ghost use Rattle.std.specs.Io.KnownBytes.{Appends};
+ghost use Rattle.report.specs.Streams.{most_read, words_of, unread_line, forgiven};
+
+use std::alloc::Global;
+use std::io;
+use std::io::{ErrorKind, Read, Write};
+
+// One byte more than a list may have, so that a longer one is refused.
+const MOST_READ: usize = 16385;
+
+// The bytes of standard input, as many as tell whether a list is too long.
+pub fn read_list<R: Read + Drop>(alloc: Global, input: R) -> io::Result<Vec<u8>>
+    ensures most { IfOk result (λ list. vec_len list ≤ most_read) }
+    ensures bytes { IfOk result (λ list. IfSome (R.remaining input) (λ all. list.items ≡ take most_read all)) }
+{
+    let mut list = Vec::new(alloc);
+    input.take(MOST_READ as u64).read_to_end(&mut list)?;
+    list.truncate(MOST_READ);
+    Ok(list)
+}
+
+// The words of the system alone: its code behind them is left out.
+#[tactic(auto, using(crate::proofs::Words::all_words, crate::proofs::Words::words_before))]
+fn words(reason: &str) -> &str
+    ensures { result.now ≡ words_of reason.now }
+{
+    match reason.split_once(" (os error ") {
+        Some((words, _)) => words,
+        None => reason,
+    }
+}
+
+// Why standard input can't be read.
+#[tactic(auto, unfolding(crate::specs::Streams::unread_line))]
+pub fn unread<W: Write>(out: &mut W, program: &str, reason: &str) -> io::Result<()>
+    ensures ok { IfOk result (λ r. r ≡ tt) }
+    ensures written { OnOk result (Appends (W.contents out.old) (W.contents out.new) (unread_line program.now reason.now)) }
+{
+    writeln!(out, "{program}: standard input: {}", words(reason))
+}
+
+// What came of printing: a reader of the lines that has gone away is no fault.
+#[tactic(auto, unfolding(crate::specs::Streams::forgiven), using(crate::proofs::Failures::other))]
+pub fn printed(written: io::Result<()>) -> io::Result<()>
+    ensures { result ≡ forgiven written }
+{
+    match written {
+        Err(error) if error.kind() == ErrorKind::BrokenPipe => Ok(()),
+        written => written,
+    }
+}

@@ -12,15 +12,13 @@ use timer::{ClockNumber, Run, Stepped};
 impl Gate {
     // One clock.
     #[tactic(auto, unfolding(crate::specs::Clocking::clocked_gate))]
-    pub fn clock(self) -> Stepped<Gate>
+    pub fn clock(mut self) -> Stepped<Gate>
         ensures { result ≡ clocked_gate self }
     {
         let next = self.timer.clocked(self.c.tin());
+        self.timer = next.part;
         Stepped {
-            part: Gate {
-                timer: next.part,
-                ..self
-            },
+            part: self,
             opened: next.opened,
         }
     }
@@ -28,7 +26,7 @@ impl Gate {
     // n clocks, after those that have passed, at once. The number of each that opens goes into the row from place `at` on, as far
     // as the row has room. A timer that they do not step, and that holds no rise for them, stands.
     #[tactic(auto, unfolding(crate::specs::Clocking::gate_run, clocks::specs::Clocks::clocks_of), using(clocks::specs::Spans::idle, clocks::specs::Spans::idle_openings))]
-    pub fn clocks(self, n: u32, passed: ClockNumber, row: &mut [u32], at: usize) -> Run<Gate>
+    pub fn clocks(mut self, n: u32, passed: ClockNumber, row: &mut [u32], at: usize) -> Run<Gate>
         ensures counted { result ≡ gate_run n passed.0 self }
         ensures numbered { row.new ≡ sets row.old at (map clock_number (gate_openings n passed.0 self)) }
     {
@@ -40,11 +38,9 @@ impl Gate {
             };
         }
         let run = clocks::clocks(self.timer, tin, n, passed, row, at);
+        self.timer = run.part;
         Run {
-            part: Gate {
-                timer: run.part,
-                ..self
-            },
+            part: self,
             used: run.used,
         }
     }
@@ -77,16 +73,14 @@ impl Gate {
     // The gate after such clocks, and how many opened it: the first or none. Its number goes into the row at place `at`, as far as the
     // row has room.
     #[tactic(auto, unfolding(crate::specs::Ahead::risen_gate, crate::specs::Ahead::moments_risen))]
-    pub fn risen(self, passed: ClockNumber, row: &mut [u32], at: usize) -> Run<Gate>
+    pub fn risen(mut self, passed: ClockNumber, row: &mut [u32], at: usize) -> Run<Gate>
         ensures counted { result ≡ risen_gate self }
         ensures numbered { row.new ≡ sets row.old at (map clock_number (moments_risen passed.0 self)) }
     {
         let run = clocks::rises::risen(self.timer, passed, row, at);
+        self.timer = run.part;
         Run {
-            part: Gate {
-                timer: run.part,
-                ..self
-            },
+            part: self,
             used: run.used,
         }
     }

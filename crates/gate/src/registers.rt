@@ -14,7 +14,7 @@ impl Gate {
         self
     }
 
-    // A byte of the preload, 0 its high one.
+    // A byte of the preload, 0 its high one: a number, as in `byte_of`.
     #[tactic(auto, unfolding(crate::specs::Registers::write_preload))]
     pub fn write_preload(mut self, place: u8, v: u8) -> Gate
         ensures { result ≡ write_preload self place v }

@@ -33,7 +33,8 @@ impl Parallel {
         self.stepped(pair, |buffer, rules| buffer.edge(rules, pins))
     }
 
-    // An asserted edge of H2 or H4.
+    // An asserted edge of H2 or H4. A pair is taken and put back here and where its control register is written, with other arguments: a
+    // function over a closure for both is no plainer.
     #[tactic(auto, unfolding(crate::specs::Pins::second_edge))]
     fn second_edge(self, pair: Pair) -> Parallel
         ensures { result ≡ second_edge self pair }
@@ -41,7 +42,7 @@ impl Parallel {
         self.with_link(pair, self.link(pair).second_edge(self.rules(pair)))
     }
 
-    // H1 or H3 at a level.
+    // H1 or H3 at a level: a field other than H2 and H4 have, so that one function for both would take a closure.
     #[tactic(auto, unfolding(crate::specs::Pins::with_first))]
     pub fn with_first(self, pair: Pair, level: bool) -> Parallel
         ensures { result ≡ with_first self pair level }

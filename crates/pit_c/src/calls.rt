@@ -28,10 +28,7 @@ const SILENT: u32 = 0x100;
 fn answer_number(vector: Option<u8>) -> u32
     ensures { result ≡ answer_number vector }
 {
-    match vector {
-        Some(vector) => vector as u32,
-        None => SILENT,
-    }
+    vector.map_or(SILENT, u32::from)
 }
 
 // The levels shown at the 28 pins, bit n for pin n.

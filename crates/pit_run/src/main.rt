@@ -17,7 +17,8 @@ fn answers(out: &mut impl Write, bytes: &[u8]) -> io::Result<()> {
 }
 
 // The lines of a list. No more than was lent is ever used, which `min` shows where the slices are cut.
-// Alike in pit_trace but for the middle: one function for both would be public and ask that a closure may be called, which none here does.
+// Alike in pit_trace but for the middle, and `main` but for this: one function for both would be public, and over a closure it would have a
+// `requires`, which no public function has; a trait with a name and a method for each program is longer than what it spares.
 fn played(out: &mut impl Write, list: &[u8]) -> io::Result<()> {
     let mut bytes = [0u8; 32768];
     let mut row = [0u32; 8192];

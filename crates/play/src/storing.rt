@@ -1,4 +1,4 @@
-// What is answered goes into what is lent, as far as there is room.
+// What is answered goes into what is lent, as far as there is room: bytes and a place, as C lends them (`clocks` of its crate says why no struct).
 ghost use Rattle.std.specs.Prelude.{◌≡◌, ◌≤◌, set};
 ghost use Rattle.std.proofs.lemmas.List.Edits.{sets};
 ghost use Rattle.wire.specs.Next.{most_bits};

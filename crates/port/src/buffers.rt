@@ -17,7 +17,7 @@ impl Buffer {
         }
     }
 
-    // A data read.
+    // A data read: in mode 0 the pair moves its own port's cells, so `on`, which is of the public contract of `Cells::drawn`, holds.
     #[tactic(auto, unfolding(crate::specs::Buffers::buffer_read))]
     pub fn read(self, rules: Rules) -> Buffer
         ensures { result ≡ buffer_read self rules }
@@ -32,7 +32,7 @@ impl Buffer {
         }
     }
 
-    // A data write.
+    // A data write, `on` as for a read (`Cells::put`).
     #[tactic(auto, unfolding(crate::specs::Buffers::buffer_written))]
     pub fn written(mut self, rules: Rules, v: u8) -> Buffer
         ensures { result ≡ buffer_written self rules v }

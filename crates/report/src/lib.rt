@@ -13,7 +13,7 @@ use std::io::Write;
 use std::{fmt, io};
 pub use streams::{printed, read_list, unread};
 
-// The digit of a number below 16, in upper case; of any other number that of its remainder by 16.
+// The digit of a number below 16, in upper case; of any other number that of its remainder by 16. Public, with a contract of its own (`digit_of`).
 #[tactic(auto, unfolding(crate::specs::Digit::digit_of))]
 pub fn digit(n: u8) -> u8
     ensures { result ≡ digit_of n }
@@ -49,7 +49,7 @@ impl fmt::Display for Answered {
     }
 }
 
-// `R`, a refusal and its place.
+// `R`, a refusal and its place. A number, 0 for none, as 01 prints it: `refusal_line` is for any.
 #[tactic(auto, unfolding(crate::specs::Lines::refusal_line))]
 pub fn refusal<W: Write>(out: &mut W, number: u8, place: usize) -> io::Result<()>
     ensures ok { IfOk result (λ r. r ≡ tt) }

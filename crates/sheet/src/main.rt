@@ -52,7 +52,7 @@ impl Step {
     }
 }
 
-// What an acknowledge would answer.
+// What an acknowledge would answer: `report::Answered` in lower case, which the stored output has.
 #[derive(Clone, Copy)]
 struct Acknowledged(Option<u8>);
 
@@ -65,7 +65,7 @@ impl fmt::Display for Acknowledged {
     }
 }
 
-// A device in an example, and how many clocks it has had there.
+// A device in an example, and how many clocks it has had there, as pit_trace's `Part`, with other methods.
 #[derive(Clone, Copy)]
 struct Sheet {
     device: Device,

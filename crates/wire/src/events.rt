@@ -24,7 +24,8 @@ impl<'a> Events<'a> {
         Events { list, at: 0 }
     }
 
-    // The refusal that stands where it has come to, if one does; where neither that nor an event stands, the list ends.
+    // The refusal that stands where it has come to, if one does; where neither that nor an event stands, the list ends. 01 asks for let else here
+    // (docs/DECISIONS.md).
     pub fn end(&self) -> Result<(), Refused>
         ensures { refusal_told result ≡ refusal_in (next_at self.now.list.now self.now.at) }
     {

@@ -48,7 +48,7 @@ const AFTER_NO_PIN: u32 = AFTER_KIND - (PIN_BITS - LAST_PIN_BITS) as u32;
 
 const NO_PIN: u32 = ((PIN << PIN_BITS) + LAST_PIN as u32 + 1) >> LAST_PIN_BITS;
 
-// The word that says that no event stands there.
+// The word that says that no event stands there. A word and no Option: `word_of` has it so, and with it the public contract of `word_at`.
 const NONE: u32 = END << AFTER_KIND;
 
 // The bits from bit at, near the end of a list, with zeros behind it. Its bits' number may wrap, but not how many remain: they are 24 at most.

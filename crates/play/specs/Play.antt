@@ -1,14 +1,11 @@
 -- The call `play(list, device, answers, openings)` (01, 'The event list'): the list taken apart, then the effect of its events; the
 -- refusals in 01's order: 8, then 1 to 5 as the list is read, then 6, then 7.
 use Rattle.std.specs.Prelude.{ℕ, ◌≡◌, List, ◌++◌, ltb, length, drop, if◌then◌else◌, Result as Either, Ok, Err}
-use Rattle.std.proofs.Common.{refl, sym, ap, ◌∙◌, arith}
 use Rattle.wire.specs.List.{Parsed, events, refused, parsed}
 use Rattle.device.specs.Events.{Made, made}
 use Rattle.device.specs.Validity.{valid_of}
 use Rattle.device.specs.declared.Device.{Device}
-use Rattle.wire.specs.Told.{number_of, refused_by_one}
-use Rattle.wire.specs.declared.refusal.Refusal.{Refusal}
-use Rattle.wire.specs.declared.refusal.Refusal.TheVariants.{TooLong, CutShort, NoPin, FillSet, ByteFollows, AnswersRoom, OpeningsRoom, InvalidDevice}
+use Rattle.wire.specs.Told.{number_of}
 use Rattle.wire.specs.declared.refusal.Refused.{Refused}
 use Rattle.play.specs.declared.playing.Totals.{Totals}
 use Rattle.play.specs.declared.playing.Played.{Played}
@@ -31,11 +28,11 @@ pub record Result : Type 0 where
 abbrev pub result : Outcome → List ℕ → List ℕ → Result
 result o answers openings = record { outcome = o; answers = answers; openings = openings }
 
--- a refusal: number and place, zero totals, the device that was given
+-- 01: a refused call returns number, place, zero answers, openings and clocks, and the device it was given
 abbrev pub refused_outcome : ℕ → ℕ → Device → Outcome
 refused_outcome r p d = record { refusal = r; place = p; answers = 0; openings = 0; clocks = 0; device = d }
 
--- a success: the new device and the three totals
+-- 01: a success returns the new device and those three totals
 abbrev pub accepted_outcome : Made → Outcome
 accepted_outcome m = record {
   refusal = 0;
@@ -46,42 +43,13 @@ accepted_outcome m = record {
   device = m.device;
 }
 
--- the outcome that is handed back with a device
+-- the code's result told so: the device that it hands back, with the totals or with a refusal
 abbrev pub outcome_with : Device → Either Totals Refused → Outcome
 outcome_with d (Ok t) = record { refusal = 0; place = 0; answers = t.answers; openings = t.openings; clocks = t.clocks; device = d }
 outcome_with d (Err r) = refused_outcome (number_of r.refusal) r.place d
 
 abbrev pub outcome_of : Played → Outcome
 outcome_of p = outcome_with p.device p.totals
-
--- one answer alone has an outcome
-above_zero : (x : Refusal) → number_of x ≡ 0 → ⊥
-above_zero TooLong = λ e. omega (arith, e)
-above_zero CutShort = λ e. omega (arith, e)
-above_zero NoPin = λ e. omega (arith, e)
-above_zero FillSet = λ e. omega (arith, e)
-above_zero ByteFollows = λ e. omega (arith, e)
-above_zero AnswersRoom = λ e. omega (arith, e)
-above_zero OpeningsRoom = λ e. omega (arith, e)
-above_zero InvalidDevice = λ e. omega (arith, e)
-
-totals_by_one : (c d : Device) (t u : Either Totals Refused) → outcome_with c t ≡ outcome_with d u → t ≡ u
-totals_by_one c d (Ok t) (Ok u) same =
-    λ i. Ok (record { answers = (same i).answers; openings = (same i).openings; clocks = (same i).clocks })
-totals_by_one c d (Ok t) (Err r) same = absurd (above_zero r.refusal (sym (ap (λ (o : Outcome). o.refusal) same)))
-totals_by_one c d (Err r) (Ok u) same = absurd (above_zero r.refusal (ap (λ (o : Outcome). o.refusal) same))
-totals_by_one c d (Err r) (Err q) same =
-    ap Err (refused_by_one r q (ap (λ (o : Outcome). o.refusal) same) (ap (λ (o : Outcome). o.place) same))
-
-device_is : (d : Device) (t : Either Totals Refused) → (outcome_with d t).device ≡ d
-device_is d (Ok t) = refl
-device_is d (Err r) = refl
-
-pub outcome_by_one : (p q : Played) → outcome_of p ≡ outcome_of q → p ≡ q
-outcome_by_one p q same =
-    let device : p.device ≡ q.device = sym (device_is p.device p.totals) ∙ ap (λ (o : Outcome). o.device) same ∙ device_is q.device q.totals in
-    let totals = totals_by_one p.device q.device p.totals q.totals same in
-    λ i. record { device = device i; totals = totals i }
 
 module _ (d : Device) (answers openings : List ℕ) where
   -- nothing lent is written

@@ -1,6 +1,7 @@
 -- A pair with the cells of its own port, and others in their place: an edge of its first pin, a data read and a data write change
 -- nothing else (01, 'Mode 0').
-use Rattle.std.specs.Prelude.{ℕ, ◌≡◌, refl}
+use Rattle.std.specs.Prelude.{ℕ, Bool, true, false, ◌≡◌, refl, if◌then◌else◌}
+use Rattle.std.proofs.Common.{sym}
 use Rattle.std.proofs.Math.Bool.{and-true, and-false}
 use Rattle.bits.specs.Choice.{both_arms}
 use Rattle.port.specs.Parts.{with_cells as port_cells}
@@ -28,6 +29,20 @@ pub edge_moves : (p : Parallel) (pair : Pair) → first_edge p pair ≡ with_buf
 unfolding first_edge with_buffer buffer_edge with_link link_of own_port rules_at rules_of moved_of
 edge_moves p H12 = rw (and-true (accepted_of p H12), and-false (accepted_of p H12)) refl
 edge_moves p H34 = rw (and-true (accepted_of p H34), and-false (accepted_of p H34)) refl
+
+-- a level that is one, or is none,
+unfoldable pub edged : Parallel → Pair → Bool → Buffer
+edged p pair edge = if edge then buffer_edge (buffer_of p pair) (rules_at p pair) (pins_of p pair) else buffer_of p pair
+
+put_back : (p : Parallel) (pair : Pair) → with_buffer p pair (buffer_of p pair) ≡ p
+unfolding with_buffer own_port link_of
+put_back p H12 = refl
+put_back p H34 = refl
+
+pub level_moves : (p : Parallel) (pair : Pair) (edge : Bool) → with_buffer p pair (edged p pair edge) ≡ (if edge then first_edge p pair else p)
+unfolding edged
+level_moves p pair true = sym (edge_moves p pair)
+level_moves p pair false = put_back p pair
 
 -- a data read
 pub read_moves : (p : Parallel) (pair : Pair) → (read_data p pair).parallel ≡ with_buffer p pair (buffer_read (buffer_of p pair) (rules_at p pair))

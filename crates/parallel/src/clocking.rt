@@ -18,6 +18,7 @@ impl Parallel {
 
     // n clocks at once. Where neither handshake waits or pulses they change nothing.
     #[tactic(auto, using(port::specs::ManyClocks::untimed_stays), unfolding(crate::specs::Clocking::clocks_of, crate::specs::Parts::rules_at, crate::specs::Parts::link_of))]
+    #[inline(always)]
     pub fn clocks(mut self, n: u32) -> Parallel
         ensures { result ≡ clocks_of n self }
     {

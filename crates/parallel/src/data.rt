@@ -12,12 +12,12 @@ impl Parallel {
         ensures { result ≡ (read_data self pair).byte }
     {
         let port = self.own(pair);
-        let level = if self.rules(pair).way.inputs() {
-            port.cells.oldest(self.link(pair).held)
+        if self.rules(pair).way.inputs() {
+            let oldest = port.cells.oldest(self.link(pair).held);
+            bits::chosen(oldest, port.cells.latch, port.direction)
         } else {
-            self.pins(pair)
-        };
-        bits::chosen(level, port.cells.latch, port.direction)
+            bits::chosen(self.pins(pair), port.cells.latch, port.direction)
+        }
     }
 
     // What that read leaves: in submode 00 it removes the oldest element.

@@ -1,10 +1,11 @@
 // What the pins of ports A and B and the handshake pins show, and levels that come to the handshake pins (01, 'Registers', 'Mode 0').
 ghost use Rattle.std.specs.Prelude.{◌≡◌};
-ghost use Rattle.parallel.specs.Pins.{pins_of, asserts_of, first_edge, second_edge, with_first, with_second, first_pin, second_pin, parallel_pinned, second_level};
+ghost use Rattle.parallel.specs.Buffers.{edged};
+ghost use Rattle.parallel.specs.Pins.{pins_of, asserts_of, second_edge, with_first, with_second, first_pin, second_pin, parallel_pinned, second_level};
 
 use crate::Parallel;
 use event::map;
-use port::{Link, Pair};
+use port::{Buffer, Link, Pair};
 
 // A pin goes from one outside level to another: it comes to be asserted.
 #[tactic(auto, unfolding(crate::specs::Pins::asserts_of))]
@@ -22,15 +23,6 @@ impl Parallel {
     {
         let port = self.own(pair);
         bits::chosen(port.outside, port.cells.latch, port.direction)
-    }
-
-    // An asserted edge of H1 or H3: an accepted one moves the cells that the pair's elements stand in.
-    #[tactic(auto, using(crate::specs::Buffers::edge_moves))]
-    fn first_edge(self, pair: Pair) -> Parallel
-        ensures { result ≡ first_edge self pair }
-    {
-        let pins = self.pins(pair);
-        self.stepped(pair, |buffer, rules| buffer.edge(rules, pins))
     }
 
     // An asserted edge of H2 or H4. A pair is taken and put back here and where its control register is written, with other arguments: a
@@ -66,30 +58,30 @@ impl Parallel {
         self.with_link(pair, link)
     }
 
-    // A level comes to H1 or H3. Each pair has an arm of its own, so that the compiler keeps the edge apart from a level that is none
-    // (docs/PERFORMANCE.md).
-    #[tactic(auto, unfolding(crate::specs::Pins::first_pin, crate::specs::Pins::with_first, crate::specs::Parts::with_link, crate::specs::Parts::link_of))]
-    pub fn first_pin(mut self, pair: Pair, level: bool) -> Parallel
+    // A pair's buffer after a level that is an asserted edge of H1 or H3, or is none.
+    #[tactic(auto, unfolding(crate::specs::Buffers::edged))]
+    #[inline(always)]
+    fn edged(self, pair: Pair, edge: bool) -> Buffer
+        ensures { result ≡ edged self pair edge }
+    {
+        let buffer = self.buffer(pair);
+        if edge {
+            buffer.edge(self.rules(pair), self.pins(pair))
+        } else {
+            buffer
+        }
+    }
+
+    // A level comes to H1 or H3. Whether it is an edge is asked of the buffer alone: with two ways for ports and pairs the compiler copies
+    // them as a whole (docs/PERFORMANCE.md).
+    #[tactic(auto, unfolding(crate::specs::Pins::first_pin), using(crate::specs::Buffers::level_moves))]
+    #[inline(always)]
+    pub fn first_pin(self, pair: Pair, level: bool) -> Parallel
         ensures { result ≡ first_pin self pair level }
     {
-        match pair {
-            Pair::H12 => {
-                let edge = asserts(self.h12.level1, level, Pair::H12.first_sense(self.pgcr));
-                self.h12.level1 = level;
-                if edge {
-                    return self.first_edge(Pair::H12);
-                }
-                self
-            }
-            Pair::H34 => {
-                let edge = asserts(self.h34.level1, level, Pair::H34.first_sense(self.pgcr));
-                self.h34.level1 = level;
-                if edge {
-                    return self.first_edge(Pair::H34);
-                }
-                self
-            }
-        }
+        let edge = asserts(self.link(pair).level1, level, pair.first_sense(self.pgcr));
+        let next = self.with_first(pair, level);
+        next.with_buffer(pair, next.edged(pair, edge))
     }
 
     // A level comes to H2 or H4.

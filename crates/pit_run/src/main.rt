@@ -1,17 +1,19 @@
 // Plays a list from standard input on a fresh device, and prints what came of it (01, 'Lists to try').
 #![tactic(auto)]
 
+use arrayvec::{ArrayString, ArrayVec};
 use device::Device;
 use report::Answered;
+use std::fmt::Write as _;
 use std::io;
-use std::io::{LineWriter, Write};
+use std::io::Write;
 
 // A line for each answer, which is two bytes: whether the part responded, and with what.
 fn answers(out: &mut impl Write, bytes: &[u8]) -> io::Result<()> {
     let (answers, _) = bytes.as_chunks::<2>();
     for [responds, byte] in answers {
-        let answer = Answered((*responds == 1).then_some(*byte));
-        writeln!(out, "A {answer}")?;
+        let [high, low] = Answered((*responds == 1).then_some(*byte)).text();
+        out.write_all(&[b'A', b' ', high, low, b'\n'])?;
     }
     Ok(())
 }
@@ -33,15 +35,20 @@ fn played(out: &mut impl Write, list: &[u8]) -> io::Result<()> {
     }
 }
 
+// Why standard input can't be read, by one write. Apart from `main`, whose stack it would add to.
+#[inline(never)]
+fn unread(out: &mut impl Write, error: io::Error) -> io::Result<()> {
+    let mut reason = ArrayString::<256>::new();
+    write!(reason, "{error}")?;
+    let mut line = ArrayVec::<u8, 320>::new();
+    report::unread(&mut line, "pit-run", &reason)?;
+    out.write_all(&line)
+}
+
 fn main(rt: HostRuntime) -> io::Result<()> {
-    match report::read_list(rt.alloc(), rt.stdin()) {
-        Ok(list) => {
-            let mut out = LineWriter::new(rt.alloc(), rt.stdout())?;
-            report::printed(played(&mut out, &list))
-        }
-        Err(error) => {
-            let reason = error.to_string(rt.alloc())?;
-            report::unread(&mut rt.stderr(), "pit-run", &reason)
-        }
+    let mut list = ArrayVec::new();
+    match report::read_list(rt.stdin(), &mut list) {
+        Ok(()) => report::printed(played(&mut rt.stdout(), &list)),
+        Err(error) => unread(&mut rt.stderr(), error),
     }
 }

@@ -1,11 +1,13 @@
 // Plays a list from standard input on a fresh device, and prints what the part shows after each event.
 #![tactic(auto)]
 
+use arrayvec::{ArrayString, ArrayVec};
 use device::Device;
 use event::Event;
 use report::Answered;
+use std::fmt::Write as _;
 use std::io;
-use std::io::{LineWriter, Write};
+use std::io::Write;
 use timer::ClockNumber;
 use wire::Events;
 
@@ -51,13 +53,15 @@ impl Part {
 
     // The part after so many events.
     fn show(&self, out: &mut impl Write, events: u64) -> io::Result<()> {
-        write!(out, "T {events} {} PINS=", self.clocks)?;
-        pins(out, self.device)?;
-        write!(out, " REGS=")?;
-        registers(out, self.device)?;
+        let mut line = ArrayVec::<u8, 192>::new();
+        write!(line, "T {events} {} PINS=", self.clocks)?;
+        pins(&mut line, self.device)?;
+        write!(line, " REGS=")?;
+        registers(&mut line, self.device)?;
         let port = Answered(self.device.port_acknowledge());
         let timer = Answered(self.device.timer_acknowledge());
-        writeln!(out, " PACK={port} TACK={timer}")
+        writeln!(line, " PACK={port} TACK={timer}")?;
+        out.write_all(&line)
     }
 }
 
@@ -90,15 +94,20 @@ fn played(out: &mut impl Write, list: &[u8]) -> io::Result<()> {
     }
 }
 
+// Why standard input can't be read, by one write. Apart from `main`, whose stack it would add to.
+#[inline(never)]
+fn unread(out: &mut impl Write, error: io::Error) -> io::Result<()> {
+    let mut reason = ArrayString::<256>::new();
+    write!(reason, "{error}")?;
+    let mut line = ArrayVec::<u8, 320>::new();
+    report::unread(&mut line, "pit-trace", &reason)?;
+    out.write_all(&line)
+}
+
 fn main(rt: HostRuntime) -> io::Result<()> {
-    match report::read_list(rt.alloc(), rt.stdin()) {
-        Ok(list) => {
-            let mut out = LineWriter::new(rt.alloc(), rt.stdout())?;
-            report::printed(played(&mut out, &list))
-        }
-        Err(error) => {
-            let reason = error.to_string(rt.alloc())?;
-            report::unread(&mut rt.stderr(), "pit-trace", &reason)
-        }
+    let mut list = ArrayVec::new();
+    match report::read_list(rt.stdin(), &mut list) {
+        Ok(()) => report::printed(played(&mut rt.stdout(), &list)),
+        Err(error) => unread(&mut rt.stderr(), error),
     }
 }

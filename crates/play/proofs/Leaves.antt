@@ -21,6 +21,7 @@ use Rattle.port.specs.ManyClocks.{untimed_stays}
 use Rattle.port.specs.Parts.{with_outside}
 use Rattle.port.specs.declared.Pair.TheVariants.{H12, H34}
 use Rattle.port.specs.declared.Pair.{Pair}
+use Rattle.gate.specs.Ahead.{quiet_gate, passed_gate, regular_gate, opened_gate, gone_gate, moments_gate, quiet_clocks_lem, regular_clocks, moments_many}
 use Rattle.gate.specs.Clocking.{gate_after, gate_openings, gate_run}
 use Rattle.gate.specs.Pins.{line_event}
 use Rattle.gate.specs.declared.Gate.{Gate}
@@ -198,6 +199,38 @@ module _ {t : Tally} {A R : List ℕ} where
 
   -- with both handshakes after their clocks in place, and the gate as it was
   module _ (n : ℕ) (fits : t.clocks + n < numbers) {d : Device} (here : d ≡ with_parallel t.device (clocks_of n t.device.parallel)) where
+    -- where the gate is quiet,
+    pub clocked_quietly : {g : Gate} {b : Bool} → b ≡ quiet_gate n d.gate → b ≡ true → g ≡ passed_gate n d.gate
+        → Leaves t A R (effect t.device t.clocks (Clocks n)) (tally (with_gate d g) t.answers t.openings (t.clocks + n)) A R
+    clocked_quietly {g} {b} eb is eg =
+        let same : d.gate ≡ t.device.gate = ap (λ (x : Device). x.gate) here in
+        let q = quiet_clocks_lem n t.clocks t.device.gate (ap (quiet_gate n) (sym same) ∙ sym eb ∙ is) in
+        let w =
+        clocked n fits (ap (λ (x : Device). x.parallel) here) (eg ∙ ap (passed_gate n) same ∙ sym q.0) (ap length (sym q.1))
+        (ap (λ (l : List ℕ). sets R t.openings (map clock_number l)) (sym q.1))
+        in
+        record {
+          device = w.device;
+          answers = w.answers;
+          openings = sym (add-zero t.openings) ∙ w.openings;
+          clocks = w.clocks;
+          bytes = w.bytes;
+          row = w.row;
+        }
+
+    -- where it opens at regular clocks,
+    pub clocked_regularly : {g : Gate} {b : Bool} {m : ℕ} {R' : List ℕ} → b ≡ regular_gate d.gate → b ≡ true → g ≡ gone_gate n d.gate
+        → m ≡ opened_gate n d.gate → R' ≡ sets R t.openings (map clock_number (moments_gate n t.clocks d.gate))
+        → Leaves t A R (effect t.device t.clocks (Clocks n)) (tally (with_gate d g) t.answers (t.openings + m) (t.clocks + n)) A R'
+    clocked_regularly eb is eg em er =
+        let k = t.clocks in
+        let same : d.gate ≡ t.device.gate = ap (λ (x : Device). x.gate) here in
+        let r = regular_clocks n k t.device.gate (ap regular_gate (sym same) ∙ sym eb ∙ is) in
+        clocked n fits (ap (λ (x : Device). x.parallel) here) (eg ∙ ap (gone_gate n) same ∙ sym r.0)
+        (em ∙ ap (opened_gate n) same ∙ sym (moments_many n k t.device.gate) ∙ ap length (sym r.1))
+        (er ∙ ap (λ (l : List ℕ). sets R t.openings (map clock_number l)) (ap (moments_gate n k) same ∙ sym r.1))
+
+    -- and anywhere,
     pub clocked_through : {y : Run Gate} {R' : List ℕ}
         → (y ≡ gate_run n t.clocks d.gate) × (R' ≡ sets R t.openings (map clock_number (gate_openings n t.clocks d.gate)))
         → Leaves t A R (effect t.device t.clocks (Clocks n)) (tally (with_gate d y.part) t.answers (t.openings + y.used) (t.clocks + n)) A R'

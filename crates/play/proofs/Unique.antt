@@ -1,5 +1,5 @@
 -- The contract of `play` leaves one outcome and one content of everything lent.
-use Rattle.std.specs.Prelude.{ℕ, ◌≡◌, Result as Either, Ok, Err}
+use Rattle.std.specs.Prelude.{◌≡◌, Result as Either, Ok, Err}
 use Rattle.std.proofs.Common.{refl, sym, ap, ◌∙◌, arith}
 use Rattle.device.specs.declared.Device.{Device}
 use Rattle.wire.specs.Told.{number_of, refused_by_one}

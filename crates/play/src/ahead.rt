@@ -1,4 +1,4 @@
-// Clocks of the gate, worked out ahead where they can be: those that open nothing, a held rise, and those that open at regular clocks.
+// Clocks of the gate, a held rise taken ahead of the others. Quiet and regular clocks `run` works out itself, where the device stands.
 ghost use Rattle.std.specs.Prelude.{◌≡◌, map};
 ghost use Rattle.std.proofs.lemmas.List.Edits.{sets};
 ghost use Rattle.clocks.specs.Clocks.{clock_number};
@@ -7,7 +7,7 @@ ghost use Rattle.gate.specs.Clocking.{gate_run, gate_openings};
 use gate::Gate;
 use timer::{ClockNumber, Run};
 
-// n clocks, after those that have passed. The number of each that opens goes into the row from place `at` on, as far as the row has room.
+// n clocks, any of them, after those that have passed. The number of each that opens goes into the row from place `at` on, as far as the row has room.
 pub(crate) fn clocks_ahead(
     gate: Gate,
     n: u32,
@@ -18,19 +18,8 @@ pub(crate) fn clocks_ahead(
     ensures counted { result ≡ gate_run n passed.0 gate }
     ensures numbered { row.new ≡ sets row.old at (map clock_number (gate_openings n passed.0 gate)) }
 {
-    if gate.quiet(n) {
-        Run {
-            part: gate.passed(n),
-            used: 0,
-        }
-    } else if gate.rises(n) {
+    if gate.rises(n) {
         gate.risen(passed, row, at)
-    } else if gate.regular() {
-        gate.list(n, passed, row, at);
-        Run {
-            part: gate.gone_on(n),
-            used: gate.opened(n),
-        }
     } else {
         gate.clocks(n, passed, row, at)
     }

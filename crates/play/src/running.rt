@@ -68,9 +68,17 @@ pub(crate) fn run(list: &[u8], given: Device, answers: &mut [u8], row: &mut [u32
                 if !(device.parallel.h12.untimed() & device.parallel.h34.untimed()) {
                     device.parallel = device.parallel.clocks(n);
                 }
-                let run = clocks_ahead(device.gate, n, ClockNumber(clocks), row, opened);
-                device.gate = run.part;
-                opened += run.used;
+                if device.gate.quiet(n) {
+                    device.gate = device.gate.passed(n);
+                } else if device.gate.regular() {
+                    device.gate.list(n, ClockNumber(clocks), row, opened);
+                    opened += device.gate.opened(n);
+                    device.gate = device.gate.gone_on(n);
+                } else {
+                    let run = clocks_ahead(device.gate, n, ClockNumber(clocks), row, opened);
+                    device.gate = run.part;
+                    opened += run.used;
+                }
                 clocks += n;
             }
             Event::Reset => device = device.reset(),

@@ -13,6 +13,7 @@ use Rattle.report.specs.Streams.{most_read}
 use Rattle.bits.proofs.Unique.{OneResult}
 use Rattle.report.proofs.digit.Reads as digit-reads
 use Rattle.report.proofs.hex.Reads as hex-reads
+use Rattle.report.proofs.Answered.text.Reads as text-reads
 use Rattle.report.proofs.refusal.Reads as refusal-reads
 use Rattle.report.proofs.openings.Reads as openings-reads
 use Rattle.report.proofs.clocks.Reads as clocks-reads
@@ -22,6 +23,9 @@ use Rattle.report.proofs.streams.printed.Reads as printed-reads
 
 pub digit : OneResult digit-reads.Post
 digit κs a r r' s s' p q = p ∙ sym q
+
+pub text : OneResult text-reads.Post
+text κs a r r' s s' p q = p ∙ sym q
 
 -- two results of the same arguments, what the writer told before and after each of the two
 abbrev pub OneWriting : {V E : Type 0} → Result V E → Result V E → Option (List ℕ) → Option (List ℕ) → Option (List ℕ) → Type 0
@@ -68,16 +72,17 @@ unread W laws write dict κs a r r' s s' p q = one_writing r r' _ _ _ _ p.0 q.0 
 pub printed : OneResult printed-reads.Post
 printed κs a r r' s s' p q = p ∙ sym q
 
-one_reading : {V E : Type 0} (items : V → List ℕ) (known : Option (List ℕ)) (first : List ℕ → List ℕ) (r r' : Result V E)
-    → IfOk r (λ x. IfSome known (λ all. items x ≡ first all)) → IfOk r' (λ x. IfSome known (λ all. items x ≡ first all))
-    → IfSome known (λ _. IfOk r (λ x. IfOk r' (λ x'. items x ≡ items x')))
-one_reading items None first r r' p q = tt
-one_reading items (Some all) first (Err _) r' p q = tt
-one_reading items (Some all) first (Ok x) (Err _) p q = tt
-one_reading items (Some all) first (Ok x) (Ok x') p q = p ∙ sym q
+one_reading : {E : Type 0} (known : Option (List ℕ)) (first : List ℕ → List ℕ) (r r' : Result Unit E) (read read' : List ℕ)
+    → IfOk r (λ x. x ≡ tt) → IfOk r' (λ x. x ≡ tt)
+    → OnOk r (IfSome known (λ all. read ≡ first all)) → OnOk r' (IfSome known (λ all. read' ≡ first all))
+    → IfSome known (λ _. IsOk r → IsOk r' → (r ≡ r') × (read ≡ read'))
+one_reading None first r r' read read' e e' p q = tt
+one_reading (Some all) first (Ok x) (Ok x') read read' e e' p q = λ i i'. (ap (λ (t : Unit). Ok t) (e ∙ sym e'), p ∙ sym q)
+one_reading (Some all) first (Ok x) (Err _) read read' e e' p q = λ i i'. absurd (false≢true i')
+one_reading (Some all) first (Err _) r' read read' e e' p q = λ i i'. absurd (false≢true i)
 
 -- of a reader that tells its bytes, the same ones are read where neither of two reads fails
 pub read_list : (R : RattleType) (laws : Laws R) (read : ReadGhosts R.Denot) (dict drop : Dict) (κs : _) (a : _) (r r' : _) (s s' : _)
     → read_list-reads.Post R laws read dict drop κs a r s → read_list-reads.Post R laws read dict drop κs a r' s'
-    → IfSome (read.remaining a.1.0) (λ _. IfOk r (λ x. IfOk r' (λ x'. x.items ≡ x'.items)))
-read_list R laws read dict drop κs a r r' s s' p q = one_reading _ _ (take most_read) r r' p.1 q.1
+    → IfSome (read.remaining a.0) (λ _. IsOk r → IsOk r' → (r ≡ r') × (s.1.0.now.items ≡ s'.1.0.now.items))
+read_list R laws read dict drop κs a r r' s s' p q = one_reading _ (take most_read) r r' _ _ p.0 q.0 p.1.1 q.1.1

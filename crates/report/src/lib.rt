@@ -9,9 +9,10 @@ ghost use Rattle.std.specs.Io.KnownBytes.{Appends};
 ghost use Rattle.report.specs.Digit.{digit_of};
 ghost use Rattle.report.specs.Lines.{two_digits, answer_text, refusal_line, opening_line, opening_lines, clocks_line};
 
+use arrayvec::ArrayVec;
 use std::io::Write;
 use std::{fmt, io};
-pub use streams::{printed, read_list, unread};
+pub use streams::{MOST_READ, printed, read_list, unread};
 
 // The digit of a number below 16, in upper case; of any other number that of its remainder by 16. Public, with a contract of its own (`digit_of`).
 #[tactic(auto, unfolding(crate::specs::Digit::digit_of))]
@@ -37,6 +38,19 @@ pub fn hex<W: Write>(out: &mut W, byte: u8) -> io::Result<()>
 #[derive(Clone, Copy)]
 pub struct Answered(pub Option<u8>);
 
+impl Answered {
+    // Its two characters.
+    #[tactic(auto, unfolding(crate::specs::Lines::answer_text, crate::specs::Lines::two_digits))]
+    pub fn text(self) -> [u8; 2]
+        ensures { result ≡ answer_text self.0 }
+    {
+        match self.0 {
+            Some(byte) => [digit(byte / 16), digit(byte)],
+            None => *b"--",
+        }
+    }
+}
+
 impl fmt::Display for Answered {
     ghost output = { λ a. Some (answer_text a.0) };
 
@@ -49,20 +63,27 @@ impl fmt::Display for Answered {
     }
 }
 
+// A line of 01's, put together in place: it goes out by one write, and no memory is asked for.
+type Line = ArrayVec<u8, 32>;
+
 // `R`, a refusal and its place. A number, 0 for none, as 01 prints it: `refusal_line` is for any.
 #[tactic(auto, unfolding(crate::specs::Lines::refusal_line))]
 pub fn refusal<W: Write>(out: &mut W, number: u8, place: usize) -> io::Result<()>
     ensures ok { IfOk result (λ r. r ≡ tt) }
     ensures written { OnOk result (Appends (W.contents out.old) (W.contents out.new) (refusal_line number place)) }
 {
-    writeln!(out, "R {number} {place}")
+    let mut line = Line::new();
+    writeln!(line, "R {number} {place}")?;
+    out.write_all(&line)
 }
 
 #[tactic(auto, unfolding(crate::specs::Lines::opening_line))]
 fn opening<W: Write>(out: &mut W, clock: u32) -> io::Result<()>
     ensures { OnOk result (Appends (W.contents out.old) (W.contents out.new) (opening_line clock)) }
 {
-    writeln!(out, "G {clock}")
+    let mut line = Line::new();
+    writeln!(line, "G {clock}")?;
+    out.write_all(&line)
 }
 
 // `G` and its clock for each opening.
@@ -82,5 +103,7 @@ pub fn clocks<W: Write>(out: &mut W, n: u32) -> io::Result<()>
     ensures ok { IfOk result (λ r. r ≡ tt) }
     ensures written { OnOk result (Appends (W.contents out.old) (W.contents out.new) (clocks_line n)) }
 {
-    writeln!(out, "C {n}")
+    let mut line = Line::new();
+    writeln!(line, "C {n}")?;
+    out.write_all(&line)
 }

@@ -1,24 +1,26 @@
 // What the programs do with the system's streams: a list is read from standard input, and a line says why it can't be.
-ghost use Rattle.std.specs.Prelude.{◌≡◌, ◌≤◌, IfOk, IfSome, OnOk, take, vec_len};
+ghost use Rattle.std.specs.Prelude.{◌≡◌, ◌≤◌, IfOk, IfSome, OnOk, take};
 ghost use Rattle.std.specs.Io.KnownBytes.{Appends};
+ghost use Rattle.arrayvec.specs.ArrayVec.{array_vec_len};
 ghost use Rattle.report.specs.Streams.{most_read, words_of, unread_line, forgiven};
 
-use std::alloc::Global;
+use arrayvec::ArrayVec;
 use std::io;
 use std::io::{ErrorKind, Read, Write};
 
 // One byte more than a list may have, so that a longer one is refused.
-const MOST_READ: usize = 16385;
+pub const MOST_READ: usize = 16385;
 
-// The bytes of standard input, as many as tell whether a list is too long.
-pub fn read_list<R: Read + Drop>(alloc: Global, input: R) -> io::Result<Vec<u8>>
-    ensures most { IfOk result (λ list. vec_len list ≤ most_read) }
-    ensures bytes { IfOk result (λ list. IfSome (R.remaining input) (λ all. list.items ≡ take most_read all)) }
+// The bytes of standard input, as many as tell whether a list is too long, in place of what the lent vector held: no memory is asked for.
+pub fn read_list<R: Read + Drop>(input: R, list: &mut ArrayVec<u8, MOST_READ>) -> io::Result<()>
+    ensures ok { IfOk result (λ r. r ≡ tt) }
+    ensures most { OnOk result (array_vec_len list.new ≤ most_read) }
+    ensures bytes { OnOk result (IfSome (R.remaining input) (λ all. list.new.items ≡ take most_read all)) }
 {
-    let mut list = Vec::new(alloc);
-    input.take(MOST_READ as u64).read_to_end(&mut list)?;
+    list.clear();
+    io::copy(&mut input.take(MOST_READ as u64), list)?;
     list.truncate(MOST_READ);
-    Ok(list)
+    Ok(())
 }
 
 // The words of the system alone: its code behind them is left out.

@@ -8,9 +8,9 @@ use device::Device;
 use event::Event;
 use wire::Events;
 
-// Follows the gate of the device from a list's first bit to its end. A refused list plays nothing, and opens nothing. Each arm ends in
-// `continue`: where arms join behind the match, the pass takes up to a third more instructions. Clocks go as by `clocks_ahead` of play, which lists
-// their numbers too.
+// Follows the gate of the device from a list's first bit to its end. A refused list plays nothing, and opens nothing. Each way of
+// clocks ends in `continue`: where they join, the pass takes up to a third more instructions. Clocks go as in `run` of play, which lists their
+// numbers too.
 #[tactic(auto, unfolding(crate::specs::Watching::watched_clocks))]
 pub fn count_openings(list: &[u8], device: Device) -> usize
     ensures { result ≡ opened_by device (parsed list.now) }

@@ -1,7 +1,8 @@
--- Each public function's contract, as the check reads it, leaves one possible result (01, 'How strict the contracts are').
-use Rattle.std.proofs.Common.{sym, ◌∙◌}
+-- Each public function's contract, as the check reads it, leaves one possible result, and one possible content of what is lent to be written
+-- (01, 'How strict the contracts are').
+use Rattle.std.proofs.Common.{◌≡◌, sym, ◌∙◌}
 use Rattle.bits.proofs.Unique.{OneResult}
-use Rattle.wire.specs.Events.{one_event}
+use Rattle.wire.specs.Events.{one_event, one_reading}
 use Rattle.wire.specs.Told.{told_by_one, refusal_told_by_one}
 use Rattle.wire.proofs.events.Events.of.Reads as of-reads
 use Rattle.wire.proofs.events.Events.end.Reads as end-reads
@@ -34,8 +35,9 @@ one_of κs a r r' s s' p q = p ∙ sym q
 pub one_end : OneResult end-reads.Post
 one_end κs a r r' s s' p q = refusal_told_by_one r r' (p ∙ sym q)
 
-pub one_next : OneResult next-reads.Post
-one_next κs a r r' s s' p q = one_event _ r r' _ _ p.0 q.0
+-- so is what it leaves of the reading that is lent
+pub one_next : (κs : _) (a : _) (r r' : _) (s s' : _) → next-reads.Post κs a r s → next-reads.Post κs a r' s' → (r ≡ r') × (s.0.now ≡ s'.0.now)
+one_next κs a r r' s s' p q = (one_event _ r r' _ _ p.0 q.0, one_reading _ r r' _ _ p.0 q.0)
 
 pub one_from : OneResult from-reads.Post
 one_from κs a r r' s s' p q = p ∙ sym q

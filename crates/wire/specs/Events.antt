@@ -30,6 +30,17 @@ one_event old (Some e) None new newer (same, here) (also, none) = absurd (subst 
 one_event old None (Some f) new newer (same, none) (also, there) = absurd (subst NoEvent there none)
 one_event old None None new newer given also = refl
 
+-- and the reading that it leaves
+pub one_reading : (old : Events) (x y : Option Event) (new newer : Events) → GivesEvent old x new → GivesEvent old y newer → new ≡ newer
+one_reading old (Some e) (Some f) new newer (same, here) (also, there) =
+    let list : new.list ≡ newer.list = same ∙ sym also in
+    let z : Play e new.at ≡ Play f newer.at = sym here ∙ there in
+    let at : new.at ≡ newer.at = cc in
+    λ i. record { list = list i; at = at i }
+one_reading old (Some e) None new newer (same, here) (also, none) = absurd (subst NoEvent here none)
+one_reading old None (Some f) new newer (same, none) (also, there) = absurd (subst NoEvent there none)
+one_reading old None None new newer (same, none) (also, neither) = same ∙ sym also
+
 -- the refusal that stands there, or else the end
 abbrev pub refusal_in : Next → Next
 refusal_in (Play e p) = End

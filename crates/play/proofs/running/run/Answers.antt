@@ -1,7 +1,8 @@
 -- `run` meets its contract: what each turn leaves is what its event does, and so what is left of the list, played from here, ends as the whole list.
-use Rattle.std.proofs.Common.{◌≡◌, ℕ, ◌+◌, ◌<◌, List, not, sym, ap, ◌∙◌, arith, rules}
+use Rattle.std.proofs.Common.{◌≡◌, ℕ, ◌+◌, ◌<◌, List, not, refl, sym, ap, ◌∙◌, arith, rules}
 use Rattle.std.specs.Borrow.{Bor}
 use Rattle.event.specs.declared.Event.{Event}
+use Rattle.event.specs.declared.Event.TheVariants.{Clocks}
 use Rattle.port.specs.declared.Pair.TheVariants.{H12, H34}
 use Rattle.wire.specs.Needs.{clocks_in}
 use Rattle.wire.specs.Next.{Play, next_at}
@@ -13,7 +14,7 @@ use Rattle.play.proofs.Leaves as leaves
 use Rattle.play.proofs.Leaves.{Tally, tally, Leaves}
 use Rattle.play.proofs.Reached.{Reached, fits, further, finished}
 use Rattle.play.proofs.running.run.Goals as goal
-use Rattle.play.proofs.running.run.Goals.{In-Some, Joined-not-untimed, then-not-untimed, else-not-untimed}
+use Rattle.play.proofs.running.run.Goals.{In-Some, Joined-not-untimed, then-not-untimed, else-not-untimed, Joined-quiet, then-quiet, else-quiet+then-regular, else-quiet+else-regular}
 
 -- where an event was read, and is matched next
 module _ (n : In-Some) where
@@ -124,12 +125,29 @@ handshaken j =
           w.device-is ∙ ap (with_parallel d) (leaves.standing d.parallel _ j.untimed.ensures j.untimed-in-Clocks.ensures (ap not w.if-not-untimed.false))
     ]
 
+-- the gate after clocks: in place where it is quiet or opens at regular clocks, and else by `clocks_ahead`
+clocked_on : (j : Joined-quiet) → (let d = j.loop-event.device in j.if-not-untimed.device ≡ with_parallel d (clocks_of j.in-Clocks.n d.parallel))
+    → j.loop-event.clocks + j.in-Clocks.n < numbers
+    → (let l = j.loop-event in
+    Leaves (tally l.device l.answered l.opened l.clocks) l.answers l.row (effect l.device l.clocks (Clocks j.in-Clocks.n))
+    (tally j.if-quiet.device l.answered j.if-quiet.opened (l.clocks + j.in-Clocks.n)) l.answers j.if-quiet.row)
+clocked_on j here fit =
+    elim j.if-quiet.branch [
+      | then-quiet w ↦
+          rw (w.device-is, w.opened-is, w.row-is)
+          (leaves.clocked_quietly j.in-Clocks.n fit here j.quiet.ensures w.if-quiet.true w.passed-device.ensures)
+      | else-quiet+then-regular w ↦
+          rw (w.device-is, w.opened-is, w.row-is)
+          (leaves.clocked_regularly j.in-Clocks.n fit here w.regular.ensures w.if-regular.true w.gone_on-device.ensures w.opened-opened.ensures w.list.ensures)
+      | else-quiet+else-regular w ↦
+          let e = w.clocks_ahead-run.ensures in
+          rw (w.device-is, w.opened-is, w.row-is) (leaves.clocked_through j.in-Clocks.n fit here (e.counted, e.numbered))
+    ]
+
 pub loop-event-preserved-in-Clocks : goal.loop-event-preserved-in-Clocks
 loop-event-preserved-in-Clocks c =
     let p = goal.at.loop-event-preserved-in-Clocks c in
-    let e = c.clocks_ahead-run.ensures in
-    reached p.In-Some c.in-Clocks.is
-    (leaves.clocked_through c.in-Clocks.n (fitting p.In-Some c.in-Clocks.is) (handshaken p.Joined-not-untimed) (e.counted, e.numbered))
+    reached p.In-Some c.in-Clocks.is (clocked_on p.Joined-quiet (handshaken p.Joined-not-untimed) (fitting p.In-Some c.in-Clocks.is))
 
 pub loop-event-preserved : goal.loop-event-preserved
 loop-event-preserved c =
@@ -140,6 +158,14 @@ loop-event-preserved c =
 pub overflow_add-opened : goal.overflow_add-opened
 overflow_add-opened c =
     let p = goal.at.overflow_add-opened c in
+    let h = fitting p.In-Some c.in-Clocks.is in
+    let w = leaves.clocked_regularly c.in-Clocks.n h (handshaken p.Joined-not-untimed) c.regular.ensures c.if-regular.true refl c.opened-opened.ensures c.list.ensures in
+    let r = reached p.In-Some c.in-Clocks.is w in
+    omega (arith, r.1.counted.opened, h)
+
+pub overflow_add-opened-else-regular : goal.overflow_add-opened-else-regular
+overflow_add-opened-else-regular c =
+    let p = goal.at.overflow_add-opened-else-regular c in
     let h = fitting p.In-Some c.in-Clocks.is in
     let e = c.clocks_ahead-run.ensures in
     let r = reached p.In-Some c.in-Clocks.is (leaves.clocked_through c.in-Clocks.n h (handshaken p.Joined-not-untimed) (e.counted, e.numbered)) in

@@ -3,4 +3,4 @@ use Rattle.report.proofs.streams.read_list.Goals as goal
 
 pub returns-clause-bytes : goal.returns-clause-bytes
 returns-clause-bytes g c =
-    cut g.R.Read.remaining c.args.input c.take.result _ _ _ _ c.take.ensures.inner c.take.ensures.limit c.new-list.ensures.items c.in_ok-read_to_end.ensures.bytes c.truncate.ensures.items
+    cut g.R.Read.remaining c.args.input c.take.result _ _ _ _ c.take.ensures.inner c.take.ensures.limit c.clear.ensures c.in_ok-copy.ensures.bytes c.truncate.ensures.items

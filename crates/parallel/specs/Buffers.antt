@@ -30,15 +30,18 @@ unfolding first_edge with_buffer buffer_edge with_link link_of own_port rules_at
 edge_moves p H12 = rw (and-true (accepted_of p H12), and-false (accepted_of p H12)) refl
 edge_moves p H34 = rw (and-true (accepted_of p H34), and-false (accepted_of p H34)) refl
 
--- a level that is one, or is none,
+-- the buffer after a level at the first pin: 'an edge happens only at a pin event that changes the level' (01, 'Registers'), and where there
+-- is none nothing moves
 unfoldable pub edged : Parallel → Pair → Bool → Buffer
 edged p pair edge = if edge then buffer_edge (buffer_of p pair) (rules_at p pair) (pins_of p pair) else buffer_of p pair
 
+-- a buffer that is put back as it was changes nothing
 put_back : (p : Parallel) (pair : Pair) → with_buffer p pair (buffer_of p pair) ≡ p
 unfolding with_buffer own_port link_of
 put_back p H12 = refl
 put_back p H34 = refl
 
+-- such a level,
 pub level_moves : (p : Parallel) (pair : Pair) (edge : Bool) → with_buffer p pair (edged p pair edge) ≡ (if edge then first_edge p pair else p)
 unfolding edged
 level_moves p pair true = sym (edge_moves p pair)

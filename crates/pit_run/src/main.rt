@@ -35,7 +35,8 @@ fn played(out: &mut impl Write, list: &[u8]) -> io::Result<()> {
     }
 }
 
-// Why standard input can't be read, by one write. Apart from `main`, whose stack it would add to.
+// Why standard input can't be read, by one write: what the system says of an error fits 256 bytes, and the line then 320. Apart from `main`,
+// whose stack it would add to.
 #[inline(never)]
 fn unread(out: &mut impl Write, error: io::Error) -> io::Result<()> {
     let mut reason = ArrayString::<256>::new();

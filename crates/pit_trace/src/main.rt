@@ -51,7 +51,7 @@ impl Part {
         };
     }
 
-    // The part after so many events.
+    // The part after so many events: a line of 164 bytes at most, put together in place, so that it goes out by one write.
     fn show(&self, out: &mut impl Write, events: u64) -> io::Result<()> {
         let mut line = ArrayVec::<u8, 192>::new();
         write!(line, "T {events} {} PINS=", self.clocks)?;
@@ -94,7 +94,8 @@ fn played(out: &mut impl Write, list: &[u8]) -> io::Result<()> {
     }
 }
 
-// Why standard input can't be read, by one write. Apart from `main`, whose stack it would add to.
+// Why standard input can't be read, by one write: what the system says of an error fits 256 bytes, and the line then 320. Apart from `main`,
+// whose stack it would add to.
 #[inline(never)]
 fn unread(out: &mut impl Write, error: io::Error) -> io::Result<()> {
     let mut reason = ArrayString::<256>::new();

@@ -7,7 +7,7 @@ ghost use Rattle.gate.specs.Clocking.{gate_run, gate_openings};
 use gate::Gate;
 use timer::{ClockNumber, Run};
 
-// n clocks, any of them, after those that have passed. The number of each that opens goes into the row from place `at` on, as far as the row has room.
+// n clocks, after those that have passed. The number of each that opens goes into the row from place `at` on, as far as the row has room.
 pub(crate) fn clocks_ahead(
     gate: Gate,
     n: u32,

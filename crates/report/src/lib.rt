@@ -63,7 +63,7 @@ impl fmt::Display for Answered {
     }
 }
 
-// A line of 01's, put together in place: it goes out by one write, and no memory is asked for.
+// A line of 01's, put together in place: it goes out by one write, and no memory is asked for. The longest is a refusal's: 27 bytes.
 type Line = ArrayVec<u8, 32>;
 
 // `R`, a refusal and its place. A number, 0 for none, as 01 prints it: `refusal_line` is for any.
